@@ -1,0 +1,38 @@
+-- Known dates, computed by the definitions.
+use Prim.Native.Nat.{ℕ}
+use mathlib.Core.Bool.{true, false}
+use mathlib.Core.List.{[], _∷_}
+use mathlib.Core.Path.{_≡_, refl}
+use Rattle.calendar.specs.declared.Date.{Date}
+use Rattle.calendar.specs.declared.QuarterHour.the-variants.{At, Outside}
+use Rattle.calendar.specs.Calendar.{leapYear, daysInMonth, daysInQuarter, hoursInQuarter, inQuarter, daysBefore, hourOfQuarter, monthOfDay, dateOfHour, quarterHour}
+
+years : (leapYear 1900 ∷ leapYear 1996 ∷ leapYear 1999 ∷ leapYear 2000 ∷ leapYear 2100 ∷ []) ≡ (false ∷ true ∷ false ∷ true ∷ false ∷ [])
+unfolding leapYear
+years = refl
+
+hours :
+    (hoursInQuarter 2001 1 ∷ hoursInQuarter 2000 1 ∷ hoursInQuarter 2001 2 ∷ hoursInQuarter 2001 3 ∷ hoursInQuarter 2001 4 ∷ []) ≡
+    (2160 ∷ 2184 ∷ 2184 ∷ 2208 ∷ 2208 ∷ [])
+unfolding hoursInQuarter daysInQuarter daysInMonth leapYear
+hours = refl
+
+on : ℕ → ℕ → ℕ → Date
+on month day hour = record { month = month; day = day; hour = hour }
+
+-- the end of February, both ends of the third quarter, and what lies just outside it
+dates :
+    (quarterHour 2000 1 (on 2 29 0) ∷ quarterHour 2000 1 (on 3 1 0) ∷ quarterHour 2001 1 (on 2 29 0) ∷ quarterHour 2001 1 (on 3 1 0) ∷
+    quarterHour 2001 3 (on 7 1 0) ∷ quarterHour 2001 3 (on 8 31 23) ∷ quarterHour 2001 3 (on 9 30 23) ∷ quarterHour 2001 3 (on 9 31 0) ∷
+    quarterHour 2001 3 (on 9 30 24) ∷ quarterHour 2001 3 (on 10 1 0) ∷ quarterHour 2001 3 (on 7 0 0) ∷ []) ≡
+    (At 1416 ∷ At 1440 ∷ Outside ∷ At 1416 ∷
+    At 0 ∷ At 1487 ∷ At 2207 ∷ Outside ∷
+    Outside ∷ Outside ∷ Outside ∷ [])
+unfolding quarterHour inQuarter hourOfQuarter daysBefore daysInMonth leapYear on
+dates = refl
+
+back :
+    (dateOfHour 2000 1 1416 ∷ dateOfHour 2001 1 1416 ∷ dateOfHour 2001 3 1487 ∷ dateOfHour 2001 3 2207 ∷ []) ≡
+    (on 2 29 0 ∷ on 3 1 0 ∷ on 8 31 23 ∷ on 9 30 23 ∷ [])
+unfolding dateOfHour monthOfDay daysBefore daysInMonth leapYear on
+back = refl

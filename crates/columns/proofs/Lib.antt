@@ -1,0 +1,4 @@
+-- Laws that the proofs of this crate's functions share, and worked examples.
+pub mod Reading
+pub mod Filling
+pub mod Examples

@@ -1,0 +1,9 @@
+-- Columns of a line and the numbers in them: definitions, and the laws that other crates cite.
+pub mod Bytes
+pub mod Columns
+pub mod Number
+pub mod Written
+pub mod BytesLaws
+pub mod ColumnsLaws
+pub mod NumberLaws
+pub mod WrittenLaws

@@ -1,0 +1,53 @@
+-- `edr::totals::Totals::quarter` meets its contract: each total is a fraction of its definition, reduced.
+-- Assumes nothing.
+use native.Mathlib.Omega.{arith}
+use lib.ListN.{getD}
+use Rattle.edr.specs.Totals.{quarterOf}
+use Rattle.edr.proofs.Sums.{sum-bound, tons, amounts}
+use borrow.Author.Needs.{needs}
+use Rattle.edr.proofs.totals.Totals.quarter.Statement.{statement}
+use Rattle.edr.proofs.totals.Totals.quarter.Tie as tie
+
+array-read-half-up : tie.Need-array-read-half-up
+array-read-half-up c = search needs
+
+half-up-requires : tie.Need-half-up-requires
+half-up-requires c κs = omega (arith, sum-bound (c .before .args .self) 0 (c .before .pre))
+
+array-read-half-up-2 : tie.Need-array-read-half-up-2
+array-read-half-up-2 c = search needs
+
+half-up-requires-2 : tie.Need-half-up-requires-2
+half-up-requires-2 c κs = omega (arith, sum-bound (c .before .before .args .self) 1 (c .before .before .pre))
+
+array-read-half-up-3 : tie.Need-array-read-half-up-3
+array-read-half-up-3 c = search needs
+
+half-up-requires-3 : tie.Need-half-up-requires-3
+half-up-requires-3 c κs = omega (arith, sum-bound (c .before .before .before .args .self) 2 (c .before .before .before .pre))
+
+array-read-mean : tie.Need-array-read-mean
+array-read-mean c = search needs
+
+mean-requires : tie.Need-mean-requires
+mean-requires c κs = (sum-bound (c .before .before .before .before .args .self) 3 (c .before .before .before .before .pre), c .before .before .before .before .pre .hours)
+
+returns : tie.Need-returns
+unfolding quarterOf
+returns c =
+    let t = c .before .before .before .before .before .args .self in
+    cc (tons (getD (t .sums) 0 0), amounts (getD (t .sums) 1 0), amounts (getD (t .sums) 2 0))
+
+pub quarter-spec : {M : Type 1} → statement M
+quarter-spec =
+    tie.close
+    (tie.spec
+    array-read-half-up
+    half-up-requires
+    array-read-half-up-2
+    half-up-requires-2
+    array-read-half-up-3
+    half-up-requires-3
+    array-read-mean
+    mean-requires
+    returns)

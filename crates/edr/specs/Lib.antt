@@ -1,0 +1,10 @@
+pub mod Layout
+pub mod LayoutLaws
+pub mod Stamp
+pub mod StampLaws
+pub mod Hour
+pub mod Formulas
+pub mod FormulaLaws
+pub mod Totals
+pub mod TotalLaws
+pub mod Tried

@@ -1,0 +1,11 @@
+pub mod Fraction
+pub mod FractionLaws
+pub mod Rounding
+pub mod RoundingLaws
+pub mod Behind
+pub mod MeetsLaws
+pub mod Choose
+pub mod ProductLaw
+pub mod QuotientLaw
+pub mod Sums
+pub mod SumLaws

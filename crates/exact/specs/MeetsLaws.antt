@@ -1,0 +1,36 @@
+-- Two ranges meet where two strict comparisons hold; two ways to compute the comparisons are one test.
+-- Assumes nothing.
+use mathlib.Core.Path.{_≡_, refl, sym, _∙_, ap₂}
+use mathlib.Core.Logic.{_↔_}
+use mathlib.Core.Bool.{Bool, true, false, _&&_, true-and, false-and, false≢true}
+use Prim.Native.Nat.{ℕ, _≤_, _<_}
+use native.Mathlib.Omega.{arith}
+use native.Mathlib.Decide.{decLt}
+use lib.Dec.{ltb}
+use borrow.Author.Tests.{ltb-true, lt-ltb, le-ltb}
+use Rattle.exact.specs.Behind.{meets}
+
+both : (p q : Bool) → (p && q) ≡ true → (p ≡ true) × (q ≡ true)
+both true q e = (refl, rw true-and at e)
+both false q e = absurd (false≢true (rw false-and at e))
+
+pub meets-true : (low high from below : ℕ) → (meets low high from below ≡ true) ↔ ((low < below) × (from < high))
+unfolding meets
+meets-true low high from below = (
+  λ e. let h = both (ltb low below) (ltb from high) e in (ltb-true low below (h .0), ltb-true from high (h .1)),
+  λ h. rw (lt-ltb low below (h .0), lt-ltb from high (h .1)),
+)
+
+same-test : (a b c d : ℕ) → (a < b) ↔ (c < d) → ltb a b ≡ ltb c d
+same-test a b c d e = go (decLt a b)
+  where
+    le-of-not-lt : {a b : ℕ} → ¬ (a < b) → b ≤ a
+    le-of-not-lt h = omega arith
+
+    go : Dec (a < b) → ltb a b ≡ ltb c d
+    go (yes h) = lt-ltb a b h ∙ sym (lt-ltb c d (e .0 h))
+    go (no h) = le-ltb a b (le-of-not-lt h) ∙ sym (le-ltb c d (le-of-not-lt (λ l. h (e .1 l))))
+
+pub same-meets : {a b c d a′ b′ c′ d′ : ℕ} → ((a < d) ↔ (a′ < d′)) × ((c < b) ↔ (c′ < b′)) → meets a b c d ≡ meets a′ b′ c′ d′
+unfolding meets
+same-meets {a} {b} {c} {d} {a′} {b′} {c′} {d′} e = ap₂ _&&_ (same-test a d a′ d′ (e .0)) (same-test c b c′ b′ (e .1))
