@@ -1,5 +1,6 @@
 pub mod Layout
 pub mod LayoutLaws
+pub mod ValueLaws
 pub mod Stamp
 pub mod StampLaws
 pub mod Hour

@@ -2,6 +2,8 @@
 use Prim.Native.Nat.{ℕ, _+_, _*_, _/_, _%_, _≤_, _<_, _^_}
 use mathlib.Core.Path.{_≡_, refl, ap, _∙_}
 use native.Mathlib.Omega.{arith}
+use mathlib.Core.List.{List}
+use mathlib.Core.Bool.{Bool, true, false, cond}
 use lib.Dec.{eqb}
 use lib.ListN.{length}
 use borrow.Author.Tests.{eq-eqb}
@@ -9,11 +11,12 @@ use Rattle.columns.specs.Bytes.{all, isPrintable}
 use Rattle.columns.specs.Number.{digitsOnly}
 use Rattle.columns.specs.Written.{digitsOf}
 use Rattle.columns.specs.WrittenLaws.{read-digits-written, digits-length}
-use Rattle.columns.specs.declared.Field.the-variants.{Number}
+use Rattle.columns.specs.declared.Field.{Field}
+use Rattle.columns.specs.declared.Field.the-variants.{Blank, Malformed, Number}
 use Rattle.calendar.specs.Calendar.{IsQuarter, hoursInQuarter, quarterHour, dateOfHour}
-use Rattle.calendar.specs.CalendarLaws.{TwoDigits, date-of-hour-two-digits, hour-at}
+use Rattle.calendar.specs.CalendarLaws.{TwoDigits, date-of-hour-two-digits, hour-at, at-hour-below}
 use Rattle.calendar.specs.declared.Date.{Date}
-use Rattle.calendar.specs.declared.QuarterHour.the-variants.{At}
+use Rattle.calendar.specs.declared.QuarterHour.the-variants.{At, Outside}
 use Rattle.edr.specs.Stamp.{numberDate, numberHour, fieldHour, stampHour, dateNumber, stampNumber, stampOf}
 
 pub stamp-length : (year quarter hour : ℕ) → length (stampOf year quarter hour) ≡ 8
@@ -38,3 +41,21 @@ module _ (year quarter : ℕ) (q : IsQuarter quarter) where
       let date = dateOfHour year quarter hour in
       let y : dateNumber year date / 1_000_000 ≡ year % 100 = omega arith in
       rw (read-digits-written 8 (dateNumber year date) (number-below year date t), eq-eqb _ _ y, number-date year date t) (hour-at year quarter hour h)
+
+  number-hour-below : (v hour : ℕ) → numberHour year quarter v ≡ At hour → hour < 2208
+  unfolding numberHour
+  number-hour-below v hour e = go (eqb (v / 1_000_000) (year % 100)) e
+    where
+      go : (t : Bool) → cond t (quarterHour year quarter (numberDate v)) Outside ≡ At hour → hour < 2208
+      go true k = at-hour-below year quarter (numberDate v) q hour k
+      go false k = absurd (let z : _≡_ {A = ℕ} 0 1 = cc in omega arith)
+
+  -- the hour that columns name is one of the quarter's
+  pub stamp-below : (bs : List ℕ) (hour : ℕ) → stampHour year quarter bs ≡ At hour → hour < 2208
+  unfolding stampHour fieldHour
+  stamp-below bs hour e = go (digitsOnly bs) e
+    where
+      go : (f : Field) → fieldHour year quarter f ≡ At hour → hour < 2208
+      go Blank k = absurd (let z : _≡_ {A = ℕ} 0 1 = cc in omega arith)
+      go Malformed k = absurd (let z : _≡_ {A = ℕ} 0 1 = cc in omega arith)
+      go (Number v) k = number-hour-below v hour k

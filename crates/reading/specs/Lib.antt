@@ -1,5 +1,11 @@
 pub mod Lines
 pub mod LineLaws
 pub mod LineFaults
+pub mod FaultLaws
+pub mod EndLaws
 pub mod Reading
+pub mod CleanLaws
+pub mod HoursLaws
 pub mod Recorded
+pub mod CleanFile
+pub mod CountLaws

@@ -20,7 +20,6 @@ use Rattle.edr.specs.declared.layout.RecordType.the-variants.{Facility, So2Conc
 use Rattle.edr.specs.declared.layout.Value.{Value}
 
 infixr 40 _orElse_
-
 -- the first fault of two
 abbrev pub _orElse_ : ℕ → ℕ → ℕ
 zero orElse b = b

@@ -60,8 +60,11 @@ hourAfter (At hour) = hour + 1
 unfoldable pub walkHours : List ℕ → ℕ → ℕ → List (List ℕ) → List (List ℕ) → Reading
 walkHours facility line from dates [] = walkLater facility line dates []
 walkHours facility line from dates (l ∷ ls) =
-    elim (typeIs So2Concentration l) [ false ↦ walkLater facility line dates (l ∷ ls) | true ↦
-    elim (hourFault facility from l) [ zero ↦ walkHours facility (line + 1) (hourAfter (hourOn facility l)) (dates ++ (dateOn l ∷ [])) ls | suc c ↦ refusedAt (suc c) line ] ]
+    elim (typeIs So2Concentration l) [
+      | false ↦ walkLater facility line dates (l ∷ ls)
+      | true ↦
+          elim (hourFault facility from l) [ zero ↦ walkHours facility (line + 1) (hourAfter (hourOn facility l)) (dates ++ (dateOn l ∷ [])) ls | suc c ↦ refusedAt (suc c) line ]
+    ]
 
 unfoldable pub walk : List (List ℕ) → Reading
 walk [] = refusedAt 10 1

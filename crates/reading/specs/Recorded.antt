@@ -2,6 +2,7 @@
 -- Assumes nothing.
 use Prim.Native.Nat.{ℕ, zero, suc, _+_}
 use mathlib.Core.List.{List, [], _∷_}
+use mathlib.Core.Bool.{cond}
 use Rattle.columns.specs.Columns.{columns}
 use Rattle.columns.specs.Number.{fieldOf, numberOf}
 use Rattle.edr.specs.Layout.{valueAt, offsetOf}
@@ -9,6 +10,12 @@ use Rattle.edr.specs.declared.layout.RecordType.{RecordType}
 use Rattle.edr.specs.declared.layout.RecordType.the-variants.{So2Concentration, NoxConcentration, Co2Concentration, VolumetricFlow, Operation, QuarterTotals, So2Mass, NoxRate, Co2Mass}
 use Rattle.edr.specs.declared.hour.Hour.{Hour}
 use Rattle.edr.specs.declared.totals.Quarter.{Quarter}
+use Rattle.reading.specs.LineFaults.{typeIs}
+
+-- how many 200 lines there are
+unfoldable pub hourLines : List (List ℕ) → ℕ
+hourLines [] = 0
+hourLines (l ∷ ls) = cond (typeIs So2Concentration l) 1 0 + hourLines ls
 
 -- the i-th value of the record of rank k of a type, in a file of n operating hours
 unfoldable pub valueIn : List ℕ → ℕ → RecordType → ℕ → ℕ → ℕ

@@ -1,0 +1,139 @@
+-- What a file whose lines are right is like: its length, and where each of its lines stands.
+-- Assumes nothing.
+use Prim.Native.Nat.{ℕ, zero, suc, _+_, _*_, _≤_, _<_}
+use mathlib.Core.Path.{_≡_, refl, sym, ap, _∙_}
+use mathlib.Core.List.{List, [], _∷_, _++_, map}
+use mathlib.Core.Bool.{Bool, true, false}
+use native.Mathlib.Omega.{arith}
+use native.Mathlib.Decide.{decLt}
+use native.Mathlib.Nat.{not-suc-le-zero, le-of-suc-le-suc}
+use lib.ListN.{length, take, drop, drop-of-length-le}
+use Rattle.edr.specs.Layout.{lengthOf, dateColumn, valuesOf}
+use Rattle.edr.specs.declared.layout.RecordType.{RecordType}
+use Rattle.reading.specs.Lines.{firstLine, lines, last}
+use Rattle.reading.specs.LineLaws.{lines-at, line-at}
+use Rattle.reading.specs.LineFaults.{_orElse_, shapeFault, stackFault, dateFault, valuesFault, Due, dueFault}
+use Rattle.reading.specs.FaultLaws.{or-zero, shape-length}
+use Rattle.reading.specs.EndLaws.{line-within}
+use Rattle.reading.specs.Reading.{refusedAt, dueOf, runOf, runsOf, walkDue}
+use Rattle.reading.specs.declared.Report.{Report}
+use Rattle.reading.specs.declared.Reading.{Reading}
+use Rattle.reading.specs.declared.Reading.the-variants.{Clean, Refused}
+
+-- each line is the one that is due, without fault
+abbrev pub Matches : List ℕ → List Due → List (List ℕ) → Type 0
+Matches facility [] [] = Unit {0}
+Matches facility [] (l ∷ ls) = ⊥
+Matches facility (d ∷ ds) [] = ⊥
+Matches facility (d ∷ ds) (l ∷ ls) = (dueFault facility d l ≡ 0) × Matches facility ds ls
+
+pub never-clean : {A : Type 0} (number line : ℕ) (r : Report) → refusedAt number line ≡ Clean r → A
+never-clean number line r e = absurd (let z : _≡_ {A = ℕ} 0 1 = cc in omega arith)
+
+pub due-clean : (report : Report) (facility : List ℕ) (line : ℕ) (due : List Due) (ls : List (List ℕ)) (r : Report) →
+    walkDue report facility line due ls ≡ Clean r → (report ≡ r) × Matches facility due ls
+unfolding walkDue
+due-clean report facility line [] [] r e = (cc, tt)
+due-clean report facility line [] (l ∷ ls) r e = never-clean 2 line r e
+due-clean report facility line (d ∷ ds) [] r e = never-clean 10 line r e
+due-clean report facility line (d ∷ ds) (l ∷ ls) r e = go (dueFault facility d l) refl e (due-clean report facility (line + 1) ds ls r)
+  where
+    go : (f : ℕ) → dueFault facility d l ≡ f → elim f [ zero ↦ walkDue report facility (line + 1) ds ls | suc c ↦ refusedAt (suc c) line ] ≡ Clean r →
+        (walkDue report facility (line + 1) ds ls ≡ Clean r → (report ≡ r) × Matches facility ds ls) → (report ≡ r) × ((dueFault facility d l ≡ 0) × Matches facility ds ls)
+    go zero k w ih = let m = ih w in (m .0, (k, m .1))
+    go (suc c) k w ih = never-clean (suc c) line r w
+
+due-length : (facility : List ℕ) (d : Due) (l : List ℕ) → dueFault facility d l ≡ 0 → length l ≡ lengthOf (d .type)
+unfolding dueFault
+due-length facility d l e = shape-length (d .type) l (or-zero (shapeFault (d .type) l) _ e .0)
+
+due-values : (facility : List ℕ) (d : Due) (l : List ℕ) → dueFault facility d l ≡ 0 → valuesFault (valuesOf (d .type)) l ≡ 0
+unfolding dueFault
+due-values facility d l e =
+    or-zero (dateFault (dateColumn (d .type)) (d .date) l) _
+    (or-zero (stackFault facility l) _ (or-zero (shapeFault (d .type) l) _ e .1) .1) .1
+
+-- the dates of a type's lines, and how many of them there are for n operating hours
+abbrev pub datesFor : RecordType → List (List ℕ) → List (List ℕ)
+datesFor t dates = elim (dateColumn t) [ zero ↦ [] ∷ [] | suc c ↦ dates ]
+
+abbrev pub countFor : RecordType → ℕ → ℕ
+countFor t n = elim (dateColumn t) [ zero ↦ 1 | suc c ↦ n ]
+
+pub run-is : (t : RecordType) (dates : List (List ℕ)) → runOf t dates ≡ map (dueOf t) (datesFor t dates)
+unfolding runOf
+run-is t dates = go (dateColumn t)
+  where
+    go : (c : ℕ) → elim c [ zero ↦ dueOf t [] ∷ [] | suc d ↦ map (dueOf t) dates ] ≡ map (dueOf t) (elim c [ zero ↦ [] ∷ [] | suc d ↦ dates ])
+    go zero = refl
+    go (suc c) = refl
+
+count-is : (t : RecordType) (dates : List (List ℕ)) → length (datesFor t dates) ≡ countFor t (length dates)
+count-is t dates = go (dateColumn t)
+  where
+    go : (c : ℕ) → length {A = List ℕ} (elim c [ zero ↦ [] ∷ [] | suc d ↦ dates ]) ≡ elim c [ zero ↦ 1 | suc d ↦ length dates ]
+    go zero = refl
+    go (suc c) = refl
+
+module _ (file : List ℕ) (ends : last file ≡ 10) (facility : List ℕ) where
+  -- the line of a type at `at` has every value in its range
+  unfoldable pub LineRight : RecordType → ℕ → Type 0
+  LineRight t at = valuesFault (valuesOf t) (take (lengthOf t) (drop at file)) ≡ 0
+
+  -- the first of the lines that are due stands at `at`, and the others follow it
+  first-due : (t : RecordType) (date : List ℕ) (ds : List Due) (at : ℕ) → Matches facility (dueOf t date ∷ ds) (lines (drop at file)) →
+      LineRight t at × Matches facility ds (lines (drop (at + (lengthOf t + 1)) file)) × (at + (lengthOf t + 1) ≤ length file)
+  unfolding lines LineRight
+  first-due t date ds at m = go (decLt at (length file))
+    where
+      go : Dec (at < length file) → LineRight t at × Matches facility ds (lines (drop (at + (lengthOf t + 1)) file)) × (at + (lengthOf t + 1) ≤ length file)
+      go (no h) =
+          let k : length file ≤ at = omega arith in
+          absurd (rw (drop-of-length-le file k) at m)
+      go (yes h) =
+          let n = rw (lines-at file at h) at m in
+          let e = due-length facility (dueOf t date) (firstLine (drop at file)) (n .0) in (
+            rw (line-at file at (lengthOf t) e) at (due-values facility (dueOf t date) (firstLine (drop at file)) (n .0)),
+            rw e at (n .1),
+            omega (arith, line-within file at ends h),
+          )
+
+  -- the lines of one type, one for each date
+  run-right : (t : RecordType) (dates : List (List ℕ)) (rest : List Due) (at : ℕ) → at ≤ length file →
+      Matches facility (map (dueOf t) dates ++ rest) (lines (drop at file)) →
+      ((k : ℕ) → k < length dates → LineRight t (at + (lengthOf t + 1) * k))
+      × Matches facility rest (lines (drop (at + (lengthOf t + 1) * length dates) file))
+      × (at + (lengthOf t + 1) * length dates ≤ length file)
+  run-right t [] rest at b m =
+      let e : at + (lengthOf t + 1) * 0 ≡ at = omega arith in
+      ((λ k h. absurd (not-suc-le-zero h)), rw e m, rw e b)
+  run-right t (date ∷ dates) rest at b m =
+      let f = first-due t date (map (dueOf t) dates ++ rest) at m in
+      let r = run-right t dates rest (at + (lengthOf t + 1)) (f .2) (f .1) in
+      let e : at + (lengthOf t + 1) + (lengthOf t + 1) * length dates ≡ at + (lengthOf t + 1) * suc (length dates) = omega arith in
+      (each (f .0) (r .0), rw e at (r .1), rw e at (r .2))
+    where
+      each : LineRight t at → ((k : ℕ) → k < length dates → LineRight t (at + (lengthOf t + 1) + (lengthOf t + 1) * k)) →
+          (k : ℕ) → k < suc (length dates) → LineRight t (at + (lengthOf t + 1) * k)
+      each p q zero h = let e : at + (lengthOf t + 1) * 0 ≡ at = omega arith in rw e p
+      each p q (suc k) h =
+          let e : at + (lengthOf t + 1) + (lengthOf t + 1) * k ≡ at + (lengthOf t + 1) * suc k = omega arith in
+          rw e at (q k (le-of-suc-le-suc h))
+
+  -- the lines of types, one type after the other, to the end of the file
+  unfoldable pub RunsRight : List RecordType → ℕ → ℕ → Type 0
+  RunsRight [] n at = at ≡ length file
+  RunsRight (t ∷ ts) n at = ((k : ℕ) → k < countFor t n → LineRight t (at + (lengthOf t + 1) * k)) × RunsRight ts n (at + (lengthOf t + 1) * countFor t n)
+
+  pub runs-right : (ts : List RecordType) (dates : List (List ℕ)) (at : ℕ) → at ≤ length file →
+      Matches facility (runsOf ts dates) (lines (drop at file)) → RunsRight ts (length dates) at
+  unfolding RunsRight runsOf lines
+  runs-right [] dates at b m = go (decLt at (length file))
+    where
+      go : Dec (at < length file) → at ≡ length file
+      go (yes h) = absurd (rw (lines-at file at h) at m)
+      go (no h) = omega arith
+  runs-right (t ∷ ts) dates at b m =
+      let r = run-right t (datesFor t dates) (runsOf ts dates) at b (rw (run-is t dates) at m) in
+      let c = count-is t dates in
+      (rw c at (r .0), runs-right ts dates (at + (lengthOf t + 1) * countFor t (length dates)) (rw c at (r .2)) (rw c at (r .1)))
