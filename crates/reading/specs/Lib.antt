@@ -9,3 +9,4 @@ pub mod HoursLaws
 pub mod Recorded
 pub mod CleanFile
 pub mod CountLaws
+pub mod RefusalLaws

@@ -1,0 +1,86 @@
+-- What the check answers to a file. It computes.
+-- Assumes nothing.
+use Prim.Native.Nat.{ℕ, zero, suc}
+use mathlib.Core.List.{List, [], _∷_}
+use mathlib.Core.Bool.{true, false}
+use lib.Dec.{eqb}
+use Rattle.edr.specs.Layout.{lineOf}
+use Rattle.edr.specs.Formulas.{passesTest}
+use Rattle.edr.specs.Totals.{quarterTotals}
+use Rattle.edr.specs.declared.layout.RecordType.{RecordType}
+use Rattle.edr.specs.declared.layout.RecordType.the-variants.{Operation, QuarterTotals, So2Mass, NoxRate, Co2Mass}
+use Rattle.edr.specs.declared.hour.Hour.{Hour}
+use Rattle.edr.specs.declared.hour.Quantity.{Quantity}
+use Rattle.edr.specs.declared.hour.Quantity.the-variants.{Heat, So2, Nox, Co2}
+use Rattle.edr.specs.declared.totals.Quarter.{Quarter}
+use Rattle.reading.specs.Reading.{readOf}
+use Rattle.reading.specs.Recorded.{hoursOf, totalsIn}
+use Rattle.reading.specs.declared.Reading.{Reading}
+use Rattle.reading.specs.declared.Reading.the-variants.{Clean, Refused as Stopped}
+use Rattle.checker.specs.declared.Answer.{Answer}
+use Rattle.checker.specs.declared.Answer.the-variants.{Accepted, Refused}
+
+-- what an answer says, as 01 has it: n and the totals, or number and line
+abbrev pub numbersOf : Answer → List ℕ
+numbersOf (Accepted q) = q .hours ∷ q .so2 ∷ q .co2 ∷ q .heat ∷ q .nox ∷ []
+numbersOf (Refused r) = r .number ∷ r .line ∷ []
+
+abbrev pub refusedAt : ℕ → ℕ → Answer
+refusedAt number line = Refused (record { number = number; line = line })
+
+-- the figures of an hour in the order of judging
+abbrev pub quantities : List Quantity
+quantities = Heat ∷ So2 ∷ Nox ∷ Co2 ∷ []
+
+-- the refusal of a figure, and the type of its line
+abbrev pub numberFor : Quantity → ℕ
+numberFor Heat = 11
+numberFor So2 = 12
+numberFor Nox = 13
+numberFor Co2 = 14
+
+abbrev pub typeFor : Quantity → RecordType
+typeFor Heat = Operation
+typeFor So2 = So2Mass
+typeFor Nox = NoxRate
+typeFor Co2 = Co2Mass
+
+-- the figures of hour k of n: the first that fails, or what follows the hour
+unfoldable pub judgedFigures : List Quantity → ℕ → ℕ → Hour → Answer → Answer
+judgedFigures [] n k h rest = rest
+judgedFigures (q ∷ qs) n k h rest =
+    elim (passesTest q h) [ true ↦ judgedFigures qs n k h rest | false ↦ refusedAt (numberFor q) (lineOf n (typeFor q) k) ]
+
+-- the hours from hour k on, and what follows them
+unfoldable pub judgedHours : ℕ → ℕ → List Hour → Answer → Answer
+judgedHours n k [] rest = rest
+judgedHours n k (h ∷ hs) rest = judgedFigures quantities n k h (judgedHours n (suc k) hs rest)
+
+-- the totals formed against those stated on line 301
+unfoldable pub comparedTotals : ℕ → Quarter → Quarter → Answer
+comparedTotals line formed stated =
+    elim (eqb (formed .so2) (stated .so2)) [
+      | false ↦ refusedAt 21 line
+      | true ↦
+          elim (eqb (formed .co2) (stated .co2)) [
+            | false ↦ refusedAt 22 line
+            | true ↦
+                elim (eqb (formed .heat) (stated .heat)) [
+                  | false ↦ refusedAt 23 line
+                  | true ↦
+                      elim (eqb (formed .nox) (stated .nox)) [ false ↦ refusedAt 24 line | true ↦ Accepted formed ]
+                ]
+          ]
+    ]
+
+-- the hours and the totals of a file of n operating hours whose lines are right
+unfoldable pub judged : List ℕ → ℕ → Answer
+judged file n =
+    judgedHours n 0 (hoursOf file n) (comparedTotals (lineOf n QuarterTotals 0) (quarterTotals (hoursOf file n)) (totalsIn file n))
+
+unfoldable pub afterReading : List ℕ → Reading → Answer
+afterReading file (Clean report) = judged file (report .hours)
+afterReading file (Stopped refusal) = Refused refusal
+
+unfoldable pub checked : List ℕ → Answer
+checked file = afterReading file (readOf file)

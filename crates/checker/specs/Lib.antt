@@ -1,0 +1,5 @@
+pub mod Checked
+pub mod Promise
+pub mod JudgedLaws
+pub mod BoundLaws
+pub mod PromiseLaws

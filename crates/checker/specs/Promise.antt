@@ -1,0 +1,103 @@
+-- What the check promises of its answer to a file, in the words of the paper: every honest report is accepted; behind every accepted
+-- file stand unrounded readings; whichever they are, the exact amounts lie within the stated bounds of the reported ones; and a
+-- figure is refused only where nothing unrounded lies behind it. PromiseLaws.antt proves it. Assumes nothing.
+use Prim.Native.Nat.{ℕ, _≤_, _<_}
+use mathlib.Core.Path.{_≡_}
+use mathlib.Core.List.{List, [], _∷_}
+use lib.Dec.{lit<}
+use lib.ListN.{length}
+use Rattle.exact.specs.Fraction.{Fraction, _⊕_, _⊗_, _÷_, fraction, whole, Near}
+use Rattle.exact.specs.Rounding.{recorded}
+use Rattle.edr.specs.Layout.{lineOf}
+use Rattle.edr.specs.Hour.{tenth, thousandth, Unrounded, Entry, entryOf}
+use Rattle.edr.specs.Formulas.{valueOf, LiesBehind}
+use Rattle.edr.specs.Totals.{quarterTotals}
+use Rattle.edr.specs.declared.hour.Hour.{Hour}
+use Rattle.edr.specs.declared.hour.Quantity.{Quantity}
+use Rattle.edr.specs.declared.hour.Quantity.the-variants.{Heat, So2, Nox, Co2}
+use Rattle.edr.specs.declared.totals.Quarter.{Quarter}
+use Rattle.reading.specs.Lines.{lines}
+use Rattle.reading.specs.Reading.{readOf}
+use Rattle.reading.specs.Recorded.{hourLines, hourAt, hoursOf, totalsIn}
+use Rattle.reading.specs.declared.Reading.the-variants.{Clean}
+use Rattle.reading.specs.declared.Report.{Report}
+use Rattle.checker.specs.Checked.{refusedAt, numberFor, typeFor}
+use Rattle.checker.specs.declared.Answer.{Answer}
+use Rattle.checker.specs.declared.Answer.the-variants.{Accepted}
+
+-- a list lies behind a quantity's hourly figures: one entry for each hour, in order, each behind its hour's figure
+abbrev pub LieBehind : (q : Quantity) → List Hour → List (Entry q) → Type 0
+LieBehind q [] [] = Unit {0}
+LieBehind q [] (e ∷ es) = ⊥
+LieBehind q (h ∷ hs) [] = ⊥
+LieBehind q (h ∷ hs) (e ∷ es) = LiesBehind q h e × LieBehind q hs es
+
+-- one set for each hour, in order, each behind all four figures of its hour
+abbrev pub SetsBehind : List Hour → List Unrounded → Type 0
+SetsBehind [] [] = Unit {0}
+SetsBehind [] (s ∷ ss) = ⊥
+SetsBehind (h ∷ hs) [] = ⊥
+SetsBehind (h ∷ hs) (s ∷ ss) = ((q : Quantity) → LiesBehind q h (entryOf q s)) × SetsBehind hs ss
+
+-- "honestly rounded from" (01)
+pub record HonestlyRounded (file : List ℕ) (sets : List Unrounded) : Type 0 where
+  pub report : Report
+  pub clean : readOf file ≡ Clean report
+  pub behind : SetsBehind (hoursOf file (report .hours)) sets
+  pub totals : totalsIn file (report .hours) ≡ quarterTotals (hoursOf file (report .hours))
+
+-- The exact amount: rate × time summed, for SO2 over 2,000; for NOx the plain mean of the rates. 0 for no hour.
+abbrev pub exactShare : (q : Quantity) → Hour → Entry q → Fraction
+exactShare Nox h e = valueOf Nox (h .readings) e
+exactShare Heat h e = valueOf Heat (h .readings) e ⊗ fraction (h .time) 100 (lit< tt)
+exactShare So2 h e = valueOf So2 (h .readings) e ⊗ fraction (h .time) 100 (lit< tt)
+exactShare Co2 h e = valueOf Co2 (h .readings) e ⊗ fraction (h .time) 100 (lit< tt)
+
+unfoldable pub exactSum : (q : Quantity) → List Hour → List (Entry q) → Fraction
+exactSum q [] es = whole 0
+exactSum q (h ∷ hs) [] = whole 0
+exactSum q (h ∷ hs) (e ∷ es) = exactShare q h e ⊕ exactSum q hs es
+
+abbrev pub divisorOf : Quantity → ℕ → ℕ
+divisorOf Heat n = 1
+divisorOf So2 n = 2000
+divisorOf Nox n = n
+divisorOf Co2 n = 1
+
+abbrev pub exactAmount : (q : Quantity) → List Hour → List (Entry q) → Fraction
+exactAmount q hs es = exactSum q hs es ÷ whole (divisorOf q (length hs))
+
+-- the reported amount, and how far the exact one may lie from it
+abbrev pub reported : Quantity → Quarter → Fraction
+reported Heat r = recorded tenth (r .heat)
+reported So2 r = recorded tenth (r .so2)
+reported Nox r = recorded thousandth (r .nox)
+reported Co2 r = recorded tenth (r .co2)
+
+abbrev pub allowed : Quantity → ℕ → Fraction
+allowed Heat n = fraction 1 20 (lit< tt) ⊕ fraction n 20 (lit< tt)
+allowed So2 n = fraction 1 20 (lit< tt) ⊕ fraction n 40_000 (lit< tt)
+allowed Nox n = fraction 1 1000 (lit< tt)
+allowed Co2 n = fraction 1 20 (lit< tt) ⊕ fraction n 20 (lit< tt)
+
+-- the operating hours of an accepted file, in file order
+abbrev pub hoursIn : List ℕ → Quarter → List Hour
+hoursIn file r = hoursOf file (r .hours)
+
+-- a figure of the file behind which nothing lies, on its line
+pub record FailsAt (file : List ℕ) (q : Quantity) (line : ℕ) : Type 0 where
+  pub report : Report
+  pub clean : readOf file ≡ Clean report
+  pub hour : ℕ
+  pub exists : hour < report .hours
+  pub own : line ≡ lineOf (report .hours) (typeFor q) hour
+  pub nothing : (e : Entry q) → LiesBehind q (hourAt file (report .hours) hour) e → ⊥
+
+pub record Promise (file : List ℕ) (answer : Answer) : Type 0 where
+  pub honest : (sets : List Unrounded) → HonestlyRounded file sets → (r : Quarter) × (answer ≡ Accepted r)
+  pub behind : (r : Quarter) → answer ≡ Accepted r → (q : Quantity) → (es : List (Entry q)) × LieBehind q (hoursIn file r) es
+  pub bounds : (r : Quarter) → answer ≡ Accepted r → (q : Quantity) (es : List (Entry q)) → LieBehind q (hoursIn file r) es →
+      Near (exactAmount q (hoursIn file r) es) (reported q r) (allowed q (r .hours))
+  pub rightly : (q : Quantity) (line : ℕ) → answer ≡ refusedAt (numberFor q) line → FailsAt file q line
+  pub count : (r : Quarter) → answer ≡ Accepted r → r .hours ≡ hourLines (lines file)
+  pub totals : (r : Quarter) → answer ≡ Accepted r → r ≡ totalsIn file (r .hours)

@@ -1,0 +1,171 @@
+-- The promise holds of what the check answers to every file. Promise.antt states it.
+-- Assumes nothing.
+use Prim.Native.Nat.{ℕ, zero, suc, _+_, _≤_, _<_}
+use mathlib.Core.Path.{_≡_, refl, sym, ap, subst₂, _∙_}
+use mathlib.Core.List.{List, [], _∷_}
+use mathlib.Core.Bool.{true, false}
+use mathlib.Core.Logic.{_⊎_, ⊎-elim}
+use native.Mathlib.Omega.{arith}
+use lib.ListN.{length}
+use Rattle.exact.specs.Fraction.{Near}
+use Rattle.edr.specs.Layout.{lineOf}
+use Rattle.edr.specs.Hour.{HourWithin, Unrounded, Entry, entryOf}
+use Rattle.edr.specs.Formulas.{LiesBehind, passesTest}
+use Rattle.edr.specs.FormulaLaws.{test-exact}
+use Rattle.edr.specs.Totals.{totalsOf, quarterOf, quarterTotals}
+use Rattle.edr.specs.declared.layout.RecordType.the-variants.{QuarterTotals}
+use Rattle.edr.specs.declared.hour.Hour.{Hour}
+use Rattle.edr.specs.declared.hour.Quantity.{Quantity}
+use Rattle.edr.specs.declared.totals.Quarter.{Quarter}
+use Rattle.reading.specs.Lines.{lines}
+use Rattle.reading.specs.Reading.{readOf}
+use Rattle.reading.specs.Recorded.{hourLines, hourAt, hoursFrom, hoursOf, totalsIn}
+use Rattle.reading.specs.CleanFile.{CleanFile, clean-file}
+use Rattle.reading.specs.CountLaws.{clean-count}
+use Rattle.reading.specs.RefusalLaws.{refused-number}
+use Rattle.reading.specs.declared.Report.{Report}
+use Rattle.reading.specs.declared.Refusal.{Refusal}
+use Rattle.reading.specs.declared.Reading.{Reading}
+use Rattle.reading.specs.declared.Reading.the-variants.{Clean, Refused as Stopped}
+use Rattle.checker.specs.Checked.{refusedAt, numberFor, comparedTotals, judgedHours, judged, afterReading, checked}
+use Rattle.checker.specs.Promise.{LieBehind, SetsBehind, HonestlyRounded, hoursIn, exactAmount, reported, allowed, FailsAt, Promise}
+use Rattle.checker.specs.JudgedLaws.{never-accepted, Passes, AllPass, hours-accepted, hours-pass, Failing, hours-refused, Agree, totals-accepted, totals-agree, totals-refused, number-high}
+use Rattle.checker.specs.BoundLaws.{AllWithin, amount-bound}
+use Rattle.checker.specs.declared.Answer.{Answer}
+use Rattle.checker.specs.declared.Answer.the-variants.{Accepted, Refused}
+
+hours-length : (file : List ℕ) (n k left : ℕ) → length (hoursFrom file n k left) ≡ left
+unfolding hoursFrom
+hours-length file n k zero = refl
+hours-length file n k (suc left) = ap suc (hours-length file n (suc k) left)
+
+pub hours-count : (file : List ℕ) (n : ℕ) → length (hoursOf file n) ≡ n
+unfolding hoursOf
+hours-count file n = hours-length file n 0 n
+
+hours-within : (file : List ℕ) (n k left : ℕ) → ((j : ℕ) → j < n → HourWithin (hourAt file n j)) → k + left ≤ n → AllWithin (hoursFrom file n k left)
+unfolding hoursFrom
+hours-within file n k zero w h = tt
+hours-within file n k (suc left) w h = (w k (omega arith), hours-within file n (suc k) left w (omega arith))
+
+all-within : (file : List ℕ) (r : Report) → CleanFile file r → AllWithin (hoursOf file (r .hours))
+unfolding hoursOf
+all-within file r c = hours-within file (r .hours) 0 (r .hours) (c .within) (omega arith)
+
+-- behind figures that pass lie readings, and figures behind which readings lie pass
+pass-behind : (q : Quantity) (hs : List Hour) → AllWithin hs → AllPass hs → (es : List (Entry q)) × LieBehind q hs es
+unfolding Passes
+pass-behind q [] w p = ([], tt)
+pass-behind q (h ∷ hs) w p =
+    let b = test-exact q h (w .0 .readings) .0 (p .0 q) in
+    let r = pass-behind q hs (w .1) (p .1) in
+    (b .0 ∷ r .0, (b .1, r .1))
+
+behind-pass : (hs : List Hour) (sets : List Unrounded) → AllWithin hs → SetsBehind hs sets → AllPass hs
+unfolding Passes
+behind-pass [] [] w b = tt
+behind-pass [] (s ∷ ss) w b = absurd b
+behind-pass (h ∷ hs) [] w b = absurd b
+behind-pass (h ∷ hs) (s ∷ ss) w b = ((λ q. test-exact q h (w .0 .readings) .1 (entryOf q s, b .0 q)), behind-pass hs ss (w .1) (b .1))
+
+-- what an acceptance says
+record Facts (file : List ℕ) (r : Quarter) : Type 0 where
+  report : Report
+  clean : readOf file ≡ Clean report
+  hours : r .hours ≡ report .hours
+  pass : AllPass (hoursOf file (report .hours))
+  formed : quarterTotals (hoursOf file (report .hours)) ≡ r
+  agree : Agree (quarterTotals (hoursOf file (report .hours))) (totalsIn file (report .hours))
+
+formed-hours : (hs : List Hour) → quarterTotals hs .hours ≡ length hs
+unfolding quarterTotals quarterOf totalsOf
+formed-hours hs = refl
+
+accepted-facts : (file : List ℕ) (r : Quarter) → checked file ≡ Accepted r → Facts file r
+unfolding checked afterReading judged
+accepted-facts file r e = go (readOf file) refl e
+  where
+    go : (x : Reading) → readOf file ≡ x → afterReading file x ≡ Accepted r → Facts file r
+    go (Clean report) c w =
+        let n = report .hours in
+        let h = hours-accepted n 0 (hoursOf file n) (comparedTotals (lineOf n QuarterTotals 0) (quarterTotals (hoursOf file n)) (totalsIn file n)) r w in
+        let t = totals-accepted (lineOf n QuarterTotals 0) (quarterTotals (hoursOf file n)) (totalsIn file n) r (h .1) in
+        record {
+          report = report;
+          clean = c;
+          hours = ap (λ (y : Quarter). y .hours) (sym (t .0)) ∙ formed-hours (hoursOf file n) ∙ hours-count file n;
+          pass = h .0;
+          formed = t .0;
+          agree = t .1;
+        }
+    go (Stopped refusal) c w = never-accepted (refusal .number) (refusal .line) r w
+
+honest-accepted : (file : List ℕ) (sets : List Unrounded) → HonestlyRounded file sets → (r : Quarter) × (checked file ≡ Accepted r)
+unfolding checked afterReading judged
+honest-accepted file sets h =
+    let n = h .report .hours in
+    let hs = hoursOf file n in
+    let p = behind-pass hs sets (all-within file (h .report) (clean-file file (h .report) (h .clean))) (h .behind) in
+    let t = h .totals in
+    let a : Agree (quarterTotals hs) (totalsIn file n) = record { so2 = ap (λ (y : Quarter). y .so2) (sym t); co2 = ap (λ (y : Quarter). y .co2) (sym t); heat = ap (λ (y : Quarter). y .heat) (sym t); nox = ap (λ (y : Quarter). y .nox) (sym t) } in
+    (quarterTotals hs, ap (afterReading file) (h .clean) ∙ hours-pass n 0 hs _ p ∙ totals-agree (lineOf n QuarterTotals 0) (quarterTotals hs) (totalsIn file n) a)
+
+same-quarter : (f s : Quarter) → f .hours ≡ s .hours → Agree f s → f ≡ s
+same-quarter f s h a = λ i. record { hours = h i; so2 = a .so2 i; co2 = a .co2 i; heat = a .heat i; nox = a .nox i }
+
+refused-rightly : (file : List ℕ) (q : Quantity) (line : ℕ) → checked file ≡ refusedAt (numberFor q) line → FailsAt file q line
+unfolding checked afterReading judged hoursOf
+refused-rightly file q line e = go (readOf file) refl e
+  where
+    go : (x : Reading) → readOf file ≡ x → afterReading file x ≡ refusedAt (numberFor q) line → FailsAt file q line
+    go (Stopped refusal) c w = absurd (number-high q (refusal .number) (refusal .line) line w (refused-number file refusal c))
+    go (Clean report) c w =
+        let n = report .hours in
+        ⊎-elim
+        (λ (f : Failing file n (0 + n) q line).
+        let x : f .hour < n = omega (arith, f .exists) in
+        record {
+          report = report;
+          clean = c;
+          hour = f .hour;
+          exists = x;
+          own = f .own;
+          nothing = λ e b. let t = test-exact q (hourAt file n (f .hour)) (clean-file file report c .within (f .hour) x .readings) .1 (e, b) in let g = f .fails in let z : _≡_ {A = ℕ} 0 1 = cc in omega arith;
+        })
+        (λ z. absurd (totals-refused (lineOf n QuarterTotals 0) (quarterTotals (hoursOf file n)) (totalsIn file n) q line z))
+        (hours-refused file n 0 n (comparedTotals (lineOf n QuarterTotals 0) (quarterTotals (hoursOf file n)) (totalsIn file n)) q line w)
+
+module _ (file : List ℕ) (r : Quarter) (e : checked file ≡ Accepted r) where
+  accepted-within : AllWithin (hoursIn file r)
+  accepted-within = let f = accepted-facts file r e in rw (f .hours) (all-within file (f .report) (clean-file file (f .report) (f .clean)))
+
+  accepted-behind : (q : Quantity) → (es : List (Entry q)) × LieBehind q (hoursIn file r) es
+  accepted-behind q = let f = accepted-facts file r e in rw (f .hours) (pass-behind q (hoursOf file (f .report .hours)) (all-within file (f .report) (clean-file file (f .report) (f .clean))) (f .pass))
+
+  accepted-bounds : (q : Quantity) (es : List (Entry q)) → LieBehind q (hoursIn file r) es → Near (exactAmount q (hoursIn file r) es) (reported q r) (allowed q (r .hours))
+  accepted-bounds q es b =
+      let f = accepted-facts file r e in
+      let s : quarterTotals (hoursIn file r) ≡ r = ap (λ (n : ℕ). quarterTotals (hoursOf file n)) (f .hours) ∙ f .formed in
+      subst₂ (λ (x : Quarter) (n : ℕ). Near (exactAmount q (hoursIn file r) es) (reported q x) (allowed q n)) s (hours-count file (r .hours))
+      (amount-bound q (hoursIn file r) es accepted-within b)
+
+  accepted-count : r .hours ≡ hourLines (lines file)
+  accepted-count = let f = accepted-facts file r e in f .hours ∙ sym (clean-count file (f .report) (f .clean))
+
+  accepted-totals : r ≡ totalsIn file (r .hours)
+  unfolding totalsIn
+  accepted-totals =
+      let f = accepted-facts file r e in
+      let s : quarterTotals (hoursOf file (r .hours)) ≡ r = ap (λ (n : ℕ). quarterTotals (hoursOf file n)) (f .hours) ∙ f .formed in
+      let a : Agree r (totalsIn file (r .hours)) = rw (← f .hours, s) at (f .agree) in
+      same-quarter r (totalsIn file (r .hours)) refl a
+
+pub promise : (file : List ℕ) → Promise file (checked file)
+promise file = record {
+  honest = honest-accepted file;
+  behind = accepted-behind file;
+  bounds = accepted-bounds file;
+  rightly = refused-rightly file;
+  count = accepted-count file;
+  totals = accepted-totals file;
+}
