@@ -3,3 +3,4 @@ pub mod Promise
 pub mod JudgedLaws
 pub mod BoundLaws
 pub mod PromiseLaws
+pub mod Examples
