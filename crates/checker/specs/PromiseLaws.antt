@@ -100,15 +100,16 @@ accepted-facts file r e = go (readOf file) refl e
         }
     go (Stopped refusal) c w = never-accepted (refusal .number) (refusal .line) r w
 
-honest-accepted : (file : List ℕ) (sets : List Unrounded) → HonestlyRounded file sets → (r : Quarter) × (checked file ≡ Accepted r)
+-- an honest file is accepted with the totals formed
+pub honest-checked : (file : List ℕ) (sets : List Unrounded) (h : HonestlyRounded file sets) → checked file ≡ Accepted (quarterTotals (hoursOf file (h .report .hours)))
 unfolding checked afterReading judged
-honest-accepted file sets h =
+honest-checked file sets h =
     let n = h .report .hours in
     let hs = hoursOf file n in
     let p = behind-pass hs sets (all-within file (h .report) (clean-file file (h .report) (h .clean))) (h .behind) in
     let t = h .totals in
     let a : Agree (quarterTotals hs) (totalsIn file n) = record { so2 = ap (λ (y : Quarter). y .so2) (sym t); co2 = ap (λ (y : Quarter). y .co2) (sym t); heat = ap (λ (y : Quarter). y .heat) (sym t); nox = ap (λ (y : Quarter). y .nox) (sym t) } in
-    (quarterTotals hs, ap (afterReading file) (h .clean) ∙ hours-pass n 0 hs _ p ∙ totals-agree (lineOf n QuarterTotals 0) (quarterTotals hs) (totalsIn file n) a)
+    ap (afterReading file) (h .clean) ∙ hours-pass n 0 hs _ p ∙ totals-agree (lineOf n QuarterTotals 0) (quarterTotals hs) (totalsIn file n) a
 
 same-quarter : (f s : Quarter) → f .hours ≡ s .hours → Agree f s → f ≡ s
 same-quarter f s h a = λ i. record { hours = h i; so2 = a .so2 i; co2 = a .co2 i; heat = a .heat i; nox = a .nox i }
@@ -162,7 +163,7 @@ module _ (file : List ℕ) (r : Quarter) (e : checked file ≡ Accepted r) where
 
 pub promise : (file : List ℕ) → Promise file (checked file)
 promise file = record {
-  honest = honest-accepted file;
+  honest = λ sets h. (quarterTotals (hoursOf file (h .report .hours)), honest-checked file sets h);
   behind = accepted-behind file;
   bounds = accepted-bounds file;
   rightly = refused-rightly file;

@@ -10,7 +10,7 @@ use borrow.Author.Tests.{eq-eqb}
 use Rattle.columns.specs.Bytes.{all, isPrintable}
 use Rattle.columns.specs.Number.{digitsOnly}
 use Rattle.columns.specs.Written.{digitsOf}
-use Rattle.columns.specs.WrittenLaws.{read-digits-written, digits-length}
+use Rattle.columns.specs.WrittenLaws.{read-digits-written, digits-length, digits-printable}
 use Rattle.columns.specs.declared.Field.{Field}
 use Rattle.columns.specs.declared.Field.the-variants.{Blank, Malformed, Number}
 use Rattle.calendar.specs.Calendar.{IsQuarter, hoursInQuarter, quarterHour, dateOfHour}
@@ -59,3 +59,7 @@ module _ (year quarter : ℕ) (q : IsQuarter quarter) where
       go Blank k = absurd (let z : _≡_ {A = ℕ} 0 1 = cc in omega arith)
       go Malformed k = absurd (let z : _≡_ {A = ℕ} 0 1 = cc in omega arith)
       go (Number v) k = number-hour-below v hour k
+
+pub stamp-printable : (year quarter hour : ℕ) → all isPrintable (stampOf year quarter hour) ≡ true
+unfolding stampOf
+stamp-printable year quarter hour = digits-printable 8 (stampNumber year quarter hour)
