@@ -32,6 +32,12 @@ refusedAt number line = Refused (record { number = number; line = line })
 abbrev pub quantities : List Quantity
 quantities = Heat ∷ So2 ∷ Nox ∷ Co2 ∷ []
 
+abbrev pub quantityAt : ℕ → Quantity
+quantityAt zero = Heat
+quantityAt (suc zero) = So2
+quantityAt (suc (suc zero)) = Nox
+quantityAt (suc (suc (suc j))) = Co2
+
 -- the refusal of a figure, and the type of its line
 abbrev pub numberFor : Quantity → ℕ
 numberFor Heat = 11

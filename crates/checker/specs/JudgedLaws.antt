@@ -16,7 +16,7 @@ use Rattle.edr.specs.declared.hour.Quantity.{Quantity}
 use Rattle.edr.specs.declared.hour.Quantity.the-variants.{Heat, So2, Nox, Co2}
 use Rattle.edr.specs.declared.totals.Quarter.{Quarter}
 use Rattle.reading.specs.Recorded.{hourAt, hoursFrom}
-use Rattle.checker.specs.Checked.{refusedAt, quantities, numberFor, typeFor, judgedFigures, judgedHours, comparedTotals}
+use Rattle.checker.specs.Checked.{refusedAt, quantities, quantityAt, numberFor, typeFor, judgedFigures, judgedHours, comparedTotals}
 use Rattle.checker.specs.declared.Answer.{Answer}
 use Rattle.checker.specs.declared.Answer.the-variants.{Accepted, Refused}
 
@@ -83,21 +83,14 @@ hours-pass n k [] rest p = refl
 hours-pass n k (h ∷ hs) rest p = figures-pass quantities n k h (judgedHours n (suc k) hs rest) (p .0) ∙ hours-pass n (suc k) hs rest (p .1)
 
 -- the number of a figure's refusal names the quantity
-quantityOf : ℕ → Quantity
-quantityOf zero = Heat
-quantityOf (suc zero) = So2
-quantityOf (suc (suc zero)) = Nox
-quantityOf (suc (suc (suc j))) = Co2
-
-named : (q : Quantity) → quantityOf (numberFor q - 11) ≡ q
-unfolding quantityOf
+named : (q : Quantity) → quantityAt (numberFor q - 11) ≡ q
 named Heat = refl
 named So2 = refl
 named Nox = refl
 named Co2 = refl
 
 same-quantity : (p q : Quantity) → numberFor p ≡ numberFor q → p ≡ q
-same-quantity p q e = sym (named p) ∙ ap (λ (n : ℕ). quantityOf (n - 11)) e ∙ named q
+same-quantity p q e = sym (named p) ∙ ap (λ (n : ℕ). quantityAt (n - 11)) e ∙ named q
 
 figures-refused : (qs : List Quantity) (n k : ℕ) (h : Hour) (rest : Answer) (q : Quantity) (line : ℕ) → judgedFigures qs n k h rest ≡ refusedAt (numberFor q) line →
     ((passesTest q h ≡ false) × (line ≡ lineOf n (typeFor q) k)) ⊎ (rest ≡ refusedAt (numberFor q) line)

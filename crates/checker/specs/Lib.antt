@@ -1,4 +1,5 @@
 pub mod Checked
+pub mod Judging
 pub mod Promise
 pub mod JudgedLaws
 pub mod BoundLaws

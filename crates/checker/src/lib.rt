@@ -1,9 +1,117 @@
 // The check of a quarterly stack report: file and lines, then every hour's figures, then the totals.
+use edr::formulas;
+use edr::hour::Quantity;
+use edr::layout;
+use edr::layout::RecordType;
 use edr::totals::Quarter;
+use edr::totals::Totals;
+use reading::Reading;
 use reading::Refusal;
+ghost use mathlib.Core.Path.{_≡_};
+ghost use Prim.Native.Nat.{_<_, _≤_};
+ghost use Rattle.checker.specs.Checked.{refusedAt, quantityAt, typeFor, comparedTotals, judged, checked};
+ghost use Rattle.checker.specs.Promise.{Promise};
+ghost use Rattle.checker.specs.Judging.{Judgeable};
 
 // 01's acceptance, with the operating hours and totals, or a refusal.
 pub enum Answer {
     Accepted(Quarter),
     Refused(Refusal),
+}
+
+// The quantity at a place of the order of judging.
+fn quantity_at(j: usize) -> Quantity
+    ensures { λ r. ⌜ r ≡ quantityAt j ⌝ }
+{
+    match j {
+        0 => Quantity::Heat,
+        1 => Quantity::So2,
+        2 => Quantity::Nox,
+        _ => Quantity::Co2,
+    }
+}
+
+// The type of the line on which a quantity's figure stands.
+fn type_for(q: Quantity) -> RecordType
+    ensures { λ r. ⌜ r ≡ typeFor q ⌝ }
+{
+    match q {
+        Quantity::Heat => RecordType::Operation,
+        Quantity::So2 => RecordType::So2Mass,
+        Quantity::Nox => RecordType::NoxRate,
+        Quantity::Co2 => RecordType::Co2Mass,
+    }
+}
+
+fn refused(number: u64, line: usize) -> Answer
+    ensures { λ r. ⌜ r ≡ refusedAt number line ⌝ }
+{
+    Answer::Refused(Refusal { number, line })
+}
+
+// The totals formed against those stated on line 301.
+fn compare(line: usize, formed: Quarter, stated: Quarter) -> Answer
+    ensures { λ r. ⌜ r ≡ comparedTotals line formed stated ⌝ }
+{
+    if formed.so2 != stated.so2 {
+        return refused(21, line);
+    }
+    if formed.co2 != stated.co2 {
+        return refused(22, line);
+    }
+    if formed.heat != stated.heat {
+        return refused(23, line);
+    }
+    if formed.nox != stated.nox {
+        return refused(24, line);
+    }
+    Answer::Accepted(formed)
+}
+
+// The hours of a file of n operating hours whose lines are right, and its totals. The hour pass is abandoned at the first figure
+// that fails; it yields that figure's refusal, or the number 0.
+fn judge(file: &[u8], n: usize) -> Answer
+    requires { ⌜ Judgeable (now file) n ⌝ }
+    ensures { λ r. ⌜ r ≡ judged (now (file .entry)) n ⌝ }
+{
+    let mut totals = Totals::none();
+    let mut k: usize = 0;
+    let failed = 'hours: loop {
+        if k == n {
+            break 'hours Refusal { number: 0, line: 0 };
+        }
+        let hour = reading::hour(file, n, k);
+        let mut j: usize = 0;
+        while j < 4 {
+            let q = quantity_at(j);
+            if !formulas::figure_passes(q, hour) {
+                break 'hours Refusal {
+                    number: 11 + j as u64,
+                    line: layout::line_of(n, type_for(q), k),
+                };
+            }
+            j += 1;
+        }
+        totals = totals.with_hour(hour.figures, hour.time);
+        k += 1;
+    };
+    if failed.number != 0 {
+        return Answer::Refused(failed);
+    }
+    compare(
+        layout::line_of(n, RecordType::QuarterTotals, 0),
+        totals.quarter(),
+        reading::totals(file, n),
+    )
+}
+
+// What the check answers to a file.
+pub fn check(file: &[u8]) -> Answer
+    ensures { λ r. ⌜ (r ≡ checked (now (file .entry))) × Promise (now (file .entry)) r ⌝ }
+{
+    let reading = reading::read(file);
+    match reading {
+        Reading::Refused(refusal) => Answer::Refused(refusal),
+        Reading::Clean(report) => judge(file, report.hours),
+    }
 }

@@ -7,6 +7,7 @@ pub mod Reading
 pub mod CleanLaws
 pub mod HoursLaws
 pub mod Recorded
+pub mod Places
 pub mod CleanFile
 pub mod CountLaws
 pub mod RefusalLaws

@@ -1,4 +1,19 @@
 // File and line checks of a quarterly report (refusals 1 to 10), and the recorded values of an operating hour.
+mod faults;
+mod lines;
+mod recorded;
+mod walk;
+
+use edr::hour::Figures;
+use edr::hour::Hour;
+use edr::hour::Readings;
+use edr::layout::RecordType;
+use edr::totals::Quarter;
+ghost use mathlib.Core.Path.{_≡_};
+ghost use Prim.Native.Nat.{_+_, _*_, _≤_, _<_};
+ghost use lib.ListN.{length};
+ghost use Rattle.reading.specs.Reading.{readOf};
+ghost use Rattle.reading.specs.Recorded.{hourAt, totalsIn};
 
 // A report whose lines are right. Its operating hours are its 200 lines.
 pub struct Report {
@@ -16,4 +31,59 @@ pub struct Refusal {
 pub enum Reading {
     Clean(Report),
     Refused(Refusal),
+}
+
+// The first fault of the file and its lines, or what the report says of itself.
+pub fn read(file: &[u8]) -> Reading
+    ensures { λ r. ⌜ r ≡ readOf (now (file .entry)) ⌝ }
+{
+    let size = file.len();
+    if size == 0 {
+        return walk::refused(1, 0);
+    }
+    if file[size - 1] != 10 {
+        return walk::refused(1, 0);
+    }
+    let fault = faults::facility_fault(file);
+    if fault != 0 {
+        return walk::refused(fault, 1);
+    }
+    walk::walk_hours(file)
+}
+
+// Operating hour k, from 0, of a file of n whose lines are right.
+pub fn hour(file: &[u8], n: usize, k: usize) -> Hour
+    requires { ⌜ (64 + 318 * n ≤ length (now file)) × (n ≤ 2208) × (k < n) ⌝ }
+    ensures { λ r. ⌜ r ≡ hourAt (now (file .entry)) n k ⌝ }
+{
+    Hour {
+        time: recorded::value_in(file, n, RecordType::Operation, k, 0),
+        readings: Readings {
+            so2: recorded::value_in(file, n, RecordType::So2Concentration, k, 0),
+            nox: recorded::value_in(file, n, RecordType::NoxConcentration, k, 0),
+            co2: recorded::value_in(file, n, RecordType::Co2Concentration, k, 0),
+            flow: recorded::value_in(file, n, RecordType::VolumetricFlow, k, 0),
+            fc: recorded::value_in(file, n, RecordType::NoxRate, k, 0),
+        },
+        figures: Figures {
+            heat: recorded::value_in(file, n, RecordType::Operation, k, 1),
+            so2: recorded::value_in(file, n, RecordType::So2Mass, k, 0),
+            nox: recorded::value_in(file, n, RecordType::NoxRate, k, 1),
+            co2: recorded::value_in(file, n, RecordType::Co2Mass, k, 0),
+        },
+    }
+}
+
+// The totals on line 301 of a file of n operating hours whose lines are right.
+pub fn totals(file: &[u8], n: usize) -> Quarter
+    requires { ⌜ (64 + 318 * n ≤ length (now file)) × (n ≤ 2208) ⌝ }
+    ensures { λ r. ⌜ r ≡ totalsIn (now (file .entry)) n ⌝ }
+{
+    Quarter {
+        hours: n as u64,
+        so2: recorded::value_in(file, n, RecordType::QuarterTotals, 0, 0),
+        co2: recorded::value_in(file, n, RecordType::QuarterTotals, 0, 1),
+        heat: recorded::value_in(file, n, RecordType::QuarterTotals, 0, 2),
+        nox: recorded::value_in(file, n, RecordType::QuarterTotals, 0, 3),
+    }
 }

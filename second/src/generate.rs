@@ -1,0 +1,39 @@
+//! The maker of test cases: all cases follow from a seed and a count.
+
+mod changes;
+mod damage;
+mod edges;
+mod files;
+mod page;
+mod quarters;
+mod recorder;
+mod sheets;
+pub mod tight;
+
+use crate::cases::Case;
+use crate::random::Random;
+
+/// Makes the cases of one written report.
+type Group = fn(&mut Random, usize) -> Vec<Case>;
+
+/// The cases of a seed: about `count` files to check, a third as many sheets
+/// to write, and written reports of all sizes with changes to each.
+pub fn cases(seed: u64, count: usize) -> Vec<Case> {
+    let mut cases = Vec::new();
+    for number in 0..count {
+        let random = &mut Random::branch(seed, 4 * number as u64);
+        cases.push(Case::File(files::file(random, number)));
+    }
+    for number in 0..count.div_ceil(3) {
+        let random = &mut Random::branch(seed, 4 * number as u64 + 1);
+        cases.push(sheets::sheet(random, number));
+    }
+    let groups: [(usize, Group); 3] = [(40, quarters::small), (85, quarters::middle), (170, quarters::full)];
+    for (part, (share, group)) in groups.into_iter().enumerate() {
+        for number in 0..count.div_ceil(share) {
+            let random = &mut Random::branch(seed, 4 * (1_000_000 * part + number) as u64 + 2);
+            cases.extend(group(random, number));
+        }
+    }
+    cases
+}

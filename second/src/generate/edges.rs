@@ -1,0 +1,181 @@
+//! Figures at, just inside and just outside their true edge, for each of the
+//! four quantities, in any hour.
+
+use super::recorder::{column_limits, hour_with, readings, readings_around, report};
+use super::tight;
+use crate::figures::{Figure, Readings, FIGURES};
+use crate::random::Random;
+use crate::report::{place, Report};
+
+/// A report in which one figure stands at its edge or beside it. The turn
+/// names the quantity and the place: outside, on and inside the lower edge,
+/// then the upper edge.
+pub fn at_edge(random: &mut Random, turn: usize) -> Report {
+    let figure = FIGURES[turn % 4];
+    loop {
+        let count = 1 + random.below(4);
+        let mut report = report(random, count);
+        let rank = random.below(count);
+        if set_at_edge(random, &mut report, rank, figure, turn / 4 % 6, true) {
+            return report;
+        }
+    }
+}
+
+/// Readings for an edge: those that the figure uses are often 0, least or
+/// largest.
+fn edge_readings(random: &mut Random, figure: Figure) -> Readings {
+    let drawn = readings(random);
+    let special = match figure {
+        Figure::Heat => [
+            Readings { flow: 0, ..drawn },
+            Readings { co2: 1, ..drawn },
+            Readings { co2: 1_000, fc: 30_000, ..drawn },
+            Readings { fc: 5_000, ..drawn },
+            Readings { flow: 500_000_000, fc: 30_000, co2: random.between(1, 500), so2: 5, nox: 1 },
+        ],
+        Figure::So2 => [
+            Readings { so2: 0, ..drawn },
+            Readings { so2: 0, flow: 0, ..drawn },
+            Readings { flow: 0, ..drawn },
+            Readings { so2: 99_999, flow: random.between(0, 60_000_000), ..drawn },
+            Readings { flow: 500_000_000, so2: random.between(0, 12_000), ..drawn },
+        ],
+        Figure::Nox => [
+            Readings { nox: 0, ..drawn },
+            Readings { co2: 1, nox: random.between(0, 3_000), ..drawn },
+            Readings { fc: 5_000, ..drawn },
+            Readings { fc: 30_000, ..drawn },
+            Readings { nox: 99_999, co2: random.between(50, 1_000), ..drawn },
+        ],
+        Figure::Co2 => [
+            Readings { flow: 0, ..drawn },
+            Readings { co2: 1, ..drawn },
+            Readings { co2: 1_000, ..drawn },
+            Readings { flow: 500_000_000, ..drawn },
+            Readings { flow: 1, co2: random.between(1, 1_000), ..drawn },
+        ],
+    };
+    let fixed = if random.once_in(4) { drawn } else { random.pick(&special) };
+    readings_around(random, &fixed, figure).unwrap_or(drawn)
+}
+
+/// Gives an hour of the report a figure at the named place of its edge, with
+/// new readings if wanted, and adds up. False if there is no such figure.
+pub fn set_at_edge(
+    random: &mut Random,
+    report: &mut Report,
+    rank: usize,
+    figure: Figure,
+    spot: usize,
+    new_readings: bool,
+) -> bool {
+    if new_readings {
+        let fresh = edge_readings(random, figure);
+        let old = &report.hours[rank];
+        let time = old.time;
+        report.hours[rank] = hour_with(random, old.hour_of_quarter, fresh);
+        report.hours[rank].time = time;
+    }
+    let hour = &mut report.hours[rank];
+    let (low, high) = figure.edges(&hour.readings);
+    let wanted = match spot {
+        0 => low.checked_sub(1),
+        1 => Some(low),
+        2 => Some((low + 1).min(high)),
+        3 => Some(high.saturating_sub(1).max(low)),
+        4 => Some(high),
+        _ => Some(high + 1),
+    };
+    let number = place(figure);
+    match wanted.filter(|&w| w <= column_limits()[number]) {
+        Some(wanted) => {
+            hour.figures[number] = wanted;
+            report.add_up();
+            true
+        }
+        None => false,
+    }
+}
+
+/// A report with one figure far from its edge: a slip of one digit, ten times
+/// too much, nothing at all, or the largest that the column holds.
+pub fn far_off(random: &mut Random, turn: usize) -> Report {
+    let number = turn % 4;
+    let count = 1 + random.below(4);
+    let mut report = report(random, count);
+    let rank = random.below(count);
+    let limit = column_limits()[number];
+    let figure = &mut report.hours[rank].figures[number];
+    *figure = match turn / 4 % 5 {
+        0 => (*figure * 10).min(limit),
+        1 => 0,
+        2 => limit,
+        3 => *figure / 2,
+        _ => (*figure + 10u128.pow(random.below(5) as u32)).min(limit),
+    };
+    report.add_up();
+    report
+}
+
+/// A report whose readings call for a figure that no column holds; the
+/// largest that fits stands there instead.
+pub fn too_large(random: &mut Random, turn: usize) -> Report {
+    let count = 1 + random.below(3);
+    let mut report = report(random, count);
+    let rank = random.below(count);
+    let hour = &mut report.hours[rank];
+    hour.readings = match turn % 3 {
+        0 => Readings { flow: 500_000_000, co2: 1_000, fc: 5_000, so2: 3, nox: 20 },
+        1 => Readings { flow: 500_000_000, so2: 99_999, co2: 20, fc: 30_000, nox: 20 },
+        _ => Readings { nox: 99_999, co2: 1, fc: 30_000, so2: 20, flow: 100_000 },
+    };
+    for (number, figure) in FIGURES.iter().enumerate() {
+        hour.figures[number] = figure.of_recorded(&hour.readings).min(column_limits()[number]);
+    }
+    report.add_up();
+    report
+}
+
+/// Two figures that fail, in two hours or in one: the first in the order of
+/// judging must be found, wherever its line stands.
+pub fn two_impossible(random: &mut Random, turn: usize) -> Report {
+    loop {
+        let count = 2 + random.below(3);
+        let mut report = report(random, count);
+        let first = random.below(count);
+        let second = if turn % 3 == 0 { first } else { random.below(count) };
+        let spots = [random.pick(&[0, 5]), random.pick(&[0, 5])];
+        let one = random.pick(&FIGURES);
+        let other = random.pick(&FIGURES);
+        if set_at_edge(random, &mut report, first, one, spots[0], true)
+            && set_at_edge(random, &mut report, second, other, spots[1], first != second)
+        {
+            return report;
+        }
+    }
+}
+
+/// A report in which the edge of a figure is missed or met by as little as the
+/// numbers allow.
+pub fn at_tight_edge(random: &mut Random, turn: usize) -> Report {
+    let figure = FIGURES[turn % 4];
+    // The side stays the same from one trial to the next, the kind of hit or
+    // miss changes: not every kind can be had for every quantity.
+    for trial in (turn / 4..).step_by(2) {
+        let Some((fixed, wanted)) = tight::find(random, figure, trial) else { continue };
+        if wanted > column_limits()[place(figure)] {
+            continue;
+        }
+        let Some(readings) = readings_around(random, &fixed, figure) else { continue };
+        let count = 1 + random.below(3);
+        let mut report = report(random, count);
+        let rank = random.below(count);
+        let hour_of_quarter = report.hours[rank].hour_of_quarter;
+        report.hours[rank] = hour_with(random, hour_of_quarter, readings);
+        report.hours[rank].figures[place(figure)] = wanted;
+        report.add_up();
+        return report;
+    }
+    report(random, 1)
+}

@@ -1,0 +1,235 @@
+//! Written reports, small ones and full quarters, and then changes to them:
+//! each change is a list of bytes to set in the report as it stands.
+
+use super::changes::{self, CHANGES};
+use super::edges::set_at_edge;
+use super::page::{two_below, Page};
+use super::recorder::{column_limits, honest_figures};
+use super::sheets::{order, order_in, words_of};
+use crate::calendar::{eight_digits, hours_in_quarter, moment_of};
+use crate::cases::Case;
+use crate::figures::{Readings, FIGURES};
+use crate::layout::{report_length, totals_line, DATE_200, HOURLY, R100, R200};
+use crate::random::Random;
+use crate::report::{Hour, PlainPen, Report};
+use crate::write::{hour_of, report_of, Order, WORDS};
+
+/// More changes than this are not made at once.
+const MOST_EDITS: usize = 1_500;
+
+/// How many kinds of steps there are.
+const STEPS: usize = 21;
+
+/// The step that makes one 200 line too many.
+const ONE_MORE: usize = 20;
+
+/// Which of the full quarters has the largest totals.
+const HEAVIEST: usize = 5;
+
+/// The full quarters in turn: year and quarter.
+const FULL: [(u32, u32); 8] =
+    [(2005, 1), (2000, 1), (2005, 3), (2001, 2), (1996, 1), (2094, 4), (1995, 1), (2092, 2)];
+
+/// A full quarter, and changes to it.
+pub fn full(random: &mut Random, number: usize) -> Vec<Case> {
+    let (year, quarter) = FULL[number % FULL.len()];
+    let hours = hours_in_quarter(year, quarter) as usize;
+    let mut order = order_in(random, year, quarter, hours);
+    if number == HEAVIEST {
+        // Every hour has the largest heat, and nearly the largest SO2 figure.
+        let readings = Readings { so2: 60_240, nox: 99_999, co2: 1_000, flow: 99_999_900, fc: 10_000 };
+        let hour = |hour_of_quarter| Hour { hour_of_quarter, time: 100, readings, figures: [0; 4] };
+        order.words = (0..hours as u32).flat_map(|h| words_of(&hour(h))).collect();
+    }
+    let mut cases = Vec::new();
+    if number == 2 {
+        // The largest report of all, one byte too many for its room.
+        cases.push(Case::Write { order: order.clone(), room: report_length(hours) - 1 });
+    }
+    cases.extend(written(random, order, (number * 7..number * 7 + 14).chain([ONE_MORE])));
+    cases
+}
+
+/// About as many hours as 65,536 bytes hold, and changes.
+pub fn middle(random: &mut Random, number: usize) -> Vec<Case> {
+    let order = order(random, 205 + number % 2);
+    written(random, order, number * 9..number * 9 + 10)
+}
+
+/// A few hours, and changes.
+pub fn small(random: &mut Random, number: usize) -> Vec<Case> {
+    let order = order(random, 1 + number % 9);
+    written(random, order, number * 5..number * 5 + 5)
+}
+
+/// The order written, and these steps of change to its report.
+fn written(random: &mut Random, order: Order, steps: impl Iterator<Item = usize>) -> Vec<Case> {
+    let hours = order.words.chunks(WORDS).map(hour_of).collect();
+    let report = report_of(&order, hours);
+    let room = report_length(report.hours.len()) + random.pick(&[0, 0, 1, 77]);
+    let mut cases = vec![Case::Write { order, room }];
+    let mut now = report.bytes(&mut PlainPen);
+    for step in steps {
+        let next = changed(random, step, &report);
+        if next.len() != now.len() {
+            continue;
+        }
+        let edits: Vec<(usize, u8)> =
+            (0..now.len()).filter(|&i| now[i] != next[i]).map(|i| (i, next[i])).collect();
+        if edits.len() <= MOST_EDITS {
+            cases.push(Case::Patch(edits));
+            now = next;
+        }
+    }
+    cases
+}
+
+/// Any hour, the first and last ones more often.
+fn any_rank(random: &mut Random, report: &Report) -> usize {
+    let count = report.hours.len();
+    match random.below(6) {
+        0 => count - 1,
+        1 => 0,
+        _ => random.below(count),
+    }
+}
+
+/// The bytes of the report after one step of change.
+fn changed(random: &mut Random, step: usize, report: &Report) -> Vec<u8> {
+    let mut next = report.clone();
+    let (way, turn) = (step % STEPS, step / STEPS);
+    let rank = any_rank(random, report);
+    let figure = FIGURES[(turn + way) % 4];
+    match way {
+        // Outside, on, on, outside the edges of a figure, readings as written.
+        0..=3 => {
+            let spot = [0, 1, 4, 5][way];
+            if !set_at_edge(random, &mut next, rank, figure, spot, false) {
+                set_at_edge(random, &mut next, rank, figure, 5, true);
+            }
+        }
+        4 | 5 => next.totals[(turn + way) % 4] += 1,
+        6 => {
+            let total = &mut next.totals[random.below(4)];
+            *total = total.saturating_sub(1);
+        }
+        7 => {
+            // Two figures fail, in any two hours.
+            let other = any_rank(random, report);
+            set_at_edge(random, &mut next, rank, figure, 5, false);
+            let figure = random.pick(&FIGURES);
+            set_at_edge(random, &mut next, other, figure, 5, false);
+        }
+        8 => {
+            set_at_edge(random, &mut next, rank, figure, 5, false);
+            next.totals[random.below(4)] += 1;
+        }
+        9 => honest(random, &mut next),
+        10 => return report.bytes(&mut PlainPen),
+        11 => {
+            // A figure at its edge in every one of some hours, on both sides.
+            for spot in [1, 4, 1, 4, 1, 4] {
+                let rank = any_rank(random, report);
+                let figure = random.pick(&FIGURES);
+                set_at_edge(random, &mut next, rank, figure, spot, false);
+            }
+        }
+        12 => {
+            set_at_edge(random, &mut next, rank, figure, 5, false);
+            return changed_lines(random, turn, &next, 1);
+        }
+        13 => return unread_filled(random, report),
+        14 => return swapped(random, report),
+        15 => {
+            let mut bytes = report.bytes(&mut PlainPen);
+            let place = random.below(bytes.len());
+            bytes[place] = random.pick(&[b'\n', bytes[place] ^ 1, 0, 200]);
+            return bytes;
+        }
+        16 | 17 => return changed_lines(random, turn, report, 1),
+        18 => {
+            let mut page = Page::of(&report.bytes(&mut PlainPen));
+            changes::unlike_date(random, step, &mut page);
+            return page.bytes();
+        }
+        ONE_MORE => return one_more(random, report),
+        _ => return changed_lines(random, turn, report, 2),
+    }
+    let report = if next.fits() { &next } else { report };
+    report.bytes(&mut PlainPen)
+}
+
+/// The bytes of the report after so many changes inside lines.
+fn changed_lines(random: &mut Random, turn: usize, report: &Report, count: usize) -> Vec<u8> {
+    let mut page = Page::of(&report.bytes(&mut PlainPen));
+    for _ in 0..count {
+        let change = random.pick(&CHANGES);
+        let variant = turn + random.below(1_000);
+        change(random, variant, &mut page);
+    }
+    page.bytes()
+}
+
+/// Figures from the recorder in many hours instead of those of the writer.
+fn honest(random: &mut Random, report: &mut Report) {
+    let every = report.hours.len().div_ceil(100);
+    let start = random.below(every);
+    for hour in report.hours.iter_mut().skip(start).step_by(every) {
+        let figures = honest_figures(random, &hour.readings);
+        if figures.iter().zip(column_limits()).all(|(&f, limit)| f <= limit) {
+            hour.figures = figures;
+        }
+    }
+    report.add_up();
+}
+
+/// Odd bytes in unread columns of some lines.
+fn unread_filled(random: &mut Random, report: &Report) -> Vec<u8> {
+    let mut page = Page::of(&report.bytes(&mut PlainPen));
+    for _ in 0..10 {
+        let index = random.below(page.lines.len());
+        let record = page.record(index);
+        if record.date.is_none() {
+            continue;
+        }
+        let mut columns: Vec<_> = record.values.iter().map(|v| v.columns).collect();
+        columns.extend(record.date);
+        for place in 9..record.length {
+            let read = columns.iter().any(|c| (c.0..c.0 + c.1).contains(&(place + 1)));
+            if !read {
+                page.lines[index][place] = random.printable();
+            }
+        }
+    }
+    page.bytes()
+}
+
+/// One more 200 line after the last one, written over the 201 lines: an hour
+/// later if the quarter has it, or the last hour again.
+fn one_more(random: &mut Random, report: &Report) -> Vec<u8> {
+    let mut bytes = report.bytes(&mut PlainPen);
+    let hours = report.hours.len();
+    let start = R100.length + 1 + hours * (R200.length + 1);
+    let mut line = bytes[start - R200.length - 1..start].to_vec();
+    let last = report.hours[hours - 1].hour_of_quarter;
+    let later = last + 1 < hours_in_quarter(report.year, report.quarter);
+    let hour = if later { last + 1 } else { last - random.below(2) as u32 };
+    let date = eight_digits(report.year, moment_of(report.year, report.quarter, hour));
+    DATE_200.of_mut(&mut line).copy_from_slice(date.as_bytes());
+    bytes[start..start + line.len()].copy_from_slice(&line);
+    bytes
+}
+
+/// Two lines of the same record type changed places.
+fn swapped(random: &mut Random, report: &Report) -> Vec<u8> {
+    let mut page = Page::of(&report.bytes(&mut PlainPen));
+    let block = random.below(HOURLY.len());
+    match two_below(random, page.hours) {
+        Some((a, b)) => {
+            let (a, b) = (page.index(block, a), page.index(block, b));
+            page.lines.swap(a, b);
+        }
+        None => page.lines.swap(0, totals_line(report.hours.len()) - 1),
+    }
+    page.bytes()
+}

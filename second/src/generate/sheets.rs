@@ -1,0 +1,305 @@
+//! Sheets for the writer: sound ones, and each reason of refusal.
+
+use super::page::two_below;
+use super::recorder::{column_limits, name, readings, rising_hours, year_and_quarter};
+use crate::calendar::hours_in_quarter;
+use crate::cases::Case;
+use crate::figures::{Figure, Readings, FIGURES};
+use crate::layout::report_length;
+use crate::random::Random;
+use crate::report::{place, Hour};
+use crate::write::{word, Order, WORDS};
+
+/// The words of an hour.
+pub fn words_of(hour: &Hour) -> [u32; WORDS] {
+    let r = &hour.readings;
+    let first = u128::from(hour.hour_of_quarter) * 128 + hour.time;
+    let values = [first, r.so2, r.nox, r.co2, r.flow, r.fc];
+    [0, 1, 2, 3, 4, 5].map(|kind| word(kind, values[kind as usize] as u32))
+}
+
+/// A sound order with so many hours in the given quarter.
+pub fn order_in(random: &mut Random, year: u32, quarter: u32, count: usize) -> Order {
+    let mut words = Vec::with_capacity(WORDS * count);
+    for hour_of_quarter in rising_hours(random, year, quarter, count) {
+        let readings = readings(random);
+        let time = random.pick(&[1, 2, 25, 33, 50, 75, 99, 100, 100, 100]);
+        words.extend(words_of(&Hour { hour_of_quarter, time, readings, figures: [0; 4] }));
+    }
+    Order { year, quarter, name: name(random), words }
+}
+
+/// A sound order with so many hours.
+pub fn order(random: &mut Random, count: usize) -> Order {
+    let (year, quarter) = year_and_quarter(random);
+    order_in(random, year, quarter, count)
+}
+
+/// How many bytes the report of the order has, if its words are whole hours.
+fn need(order: &Order) -> usize {
+    report_length(order.words.len() / WORDS)
+}
+
+/// The sheet case with this number.
+pub fn sheet(random: &mut Random, number: usize) -> Case {
+    let turn = number / 7;
+    match number % 7 {
+        0 => good_or_short(random, turn),
+        1 => with_room(random, |random| wrong_kind(random, turn)),
+        2 => with_room(random, |random| wrong_head(random, turn)),
+        3 => with_room(random, |random| at_range(random, turn)),
+        4 => with_room(random, |random| at_limit(random, turn)),
+        5 => with_room(random, |random| at_quarter_end(random, turn)),
+        _ => many_faults(random, turn),
+    }
+}
+
+/// The order with a room that nearly always suffices.
+fn with_room(random: &mut Random, make: impl Fn(&mut Random) -> Order) -> Case {
+    let order = make(random);
+    let room = match random.below(8) {
+        0 => need(&order).saturating_sub(1),
+        1 => 0,
+        2 => need(&order) + random.below(200),
+        _ => need(&order),
+    };
+    Case::Write { order, room }
+}
+
+/// A sound order with a room that suffices exactly, more than that, or not.
+fn good_or_short(random: &mut Random, turn: usize) -> Case {
+    let order = order(random, [0, 1, 2, 3, 5, 8, 13][turn % 7]);
+    let need = need(&order);
+    let room = match turn / 2 % 6 {
+        0 => need,
+        1 => need - 1,
+        2 => 0,
+        3 => need + 1 + random.below(500),
+        4 => random.below(need),
+        _ => need + 1,
+    };
+    Case::Write { order, room }
+}
+
+/// Word counts, kinds and hours that are wrong, or just right.
+fn wrong_kind(random: &mut Random, turn: usize) -> Order {
+    let count = 1 + random.below(5);
+    let mut order = order(random, count);
+    let place = random.below(order.words.len());
+    let hour_place = WORDS * random.below(count);
+    match turn % 10 {
+        0 => order.words.truncate(place),
+        1 => order.words.extend((0..1 + random.below(5) as u32).map(|k| word(k, 1))),
+        2 => {
+            // Another kind.
+            let kind = (order.words[place] >> 29) + 1 + random.below(7) as u32;
+            order.words[place] = word(kind % 8, order.words[place] & 0x1FFF_FFFF);
+        }
+        3 => {
+            // Two words changed places; within an hour or not.
+            if let Some((a, b)) = two_below(random, order.words.len()) {
+                order.words.swap(a, b);
+            }
+        }
+        4 => drop(order.words.remove(place)),
+        5 => order.words.insert(place, order.words[place]),
+        6 => {
+            // The same hour twice, the time differing.
+            let mut again: Vec<u32> = order.words[hour_place..hour_place + WORDS].to_vec();
+            again[0] = again[0] / 128 * 128 + 1 + random.below(100) as u32;
+            order.words.splice(hour_place..hour_place, again);
+        }
+        7 => {
+            // Two hours changed places.
+            if let Some((a, b)) = two_below(random, count) {
+                (0..WORDS).for_each(|i| order.words.swap(WORDS * a + i, WORDS * b + i));
+            }
+        }
+        8 => {
+            // An hour far beyond any quarter.
+            let hour = random.pick(&[2_208, 2_209, 4_096, 4_194_303]);
+            order.words[WORDS * (count - 1)] = word(0, hour * 128 + 100);
+        }
+        _ => {
+            // All kinds the same, or the words of the sheet back to front.
+            if random.once_in(2) {
+                order.words.iter_mut().for_each(|w| *w &= 0x1FFF_FFFF);
+            } else {
+                order.words.reverse();
+            }
+        }
+    }
+    order
+}
+
+/// The last hour of the quarter or the first beyond it, in and out of leap
+/// years; as the only hour or after others.
+fn at_quarter_end(random: &mut Random, turn: usize) -> Order {
+    let quarter = [1, 2, 1, 3, 1, 4][turn % 6];
+    let year = random.pick(&[1995, 1996, 2000, 2001, 2004, 2092, 2094]);
+    let all = hours_in_quarter(year, quarter);
+    let hours = [all, all - 1, all, all + 1, all - 1, 2_160, 2_159, 2_184, 2_183, 2_207];
+    let count = 1 + random.below(3);
+    let mut order = order_in(random, year, quarter, count);
+    let last = WORDS * (count - 1);
+    order.words[last] = word(0, hours[turn / 2 % hours.len()] * 128 + 50);
+    order
+}
+
+/// Years, quarters and names that are wrong, or just right.
+fn wrong_head(random: &mut Random, turn: usize) -> Order {
+    let count = random.below(4);
+    let mut order = order(random, count);
+    let (way, turn) = (turn % 3, turn / 3);
+    match way {
+        0 => {
+            let years = [0, 1, 95, 1994, 1995, 2094, 2095, 2100, 9_999, 65_535];
+            order.year = years[turn % years.len()];
+        }
+        1 => {
+            let quarters = [0, 1, 4, 5, 6, 255];
+            order.quarter = quarters[turn % quarters.len()];
+        }
+        _ => {
+            let byte = [0, 9, 10, 13, 31, 32, 126, 127, 128, 255][turn % 10];
+            match turn % 4 {
+                0 => order.name = [b' '; 6],
+                1 => order.name = [byte; 6],
+                _ => order.name[random.below(6)] = byte,
+            }
+        }
+    }
+    order
+}
+
+/// One value at an end of its range or just beyond.
+fn at_range(random: &mut Random, turn: usize) -> Order {
+    const ENDS: [(u32, [u32; 5]); 6] = [
+        (0, [0, 1, 100, 101, 127]),
+        (1, [0, 1, 99_999, 100_000, 0x1FFF_FFFF]),
+        (2, [0, 1, 99_999, 100_000, 0x1FFF_FFFF]),
+        (3, [0, 1, 1_000, 1_001, 0x1FFF_FFFF]),
+        (4, [0, 1, 500_000_000, 500_000_001, 0x1FFF_FFFF]),
+        (5, [4_999, 5_000, 30_000, 30_001, 0]),
+    ];
+    let count = 1 + random.below(4);
+    let mut order = order(random, count);
+    let (kind, ends) = ENDS[turn % 6];
+    let value = ends[turn / 6 % 5];
+    let place = WORDS * random.below(count);
+    // Modest readings, so that the figures fit beside an extreme one.
+    let modest = Readings { so2: 10, nox: 10, co2: 100, flow: 1_000_000, fc: 18_000 };
+    let first = order.words[place] & 0x1FFF_FFFF;
+    let hour = Hour { hour_of_quarter: first / 128, time: 100, readings: modest, figures: [0; 4] };
+    order.words[place..place + WORDS].copy_from_slice(&words_of(&hour));
+    let at = place + kind as usize;
+    order.words[at] = if kind == 0 { word(0, first / 128 * 128 + value) } else { word(kind, value) };
+    order
+}
+
+/// Readings with a figure that just fits its column, or just does not. CO2
+/// always fits; its turn makes it as large as it can be.
+fn limit_readings(random: &mut Random, figure: Figure, over: bool) -> Readings {
+    let limit = column_limits()[place(figure)];
+    loop {
+        let mut readings = match figure {
+            Figure::Heat => {
+                let fc = random.between(5_000, 20_000);
+                Readings { so2: 3, nox: 5, co2: random.between(300, 1_000), flow: 0, fc }
+            }
+            Figure::So2 => {
+                let so2 = random.between(20_000, 99_999);
+                Readings { so2, nox: 5, co2: 10, flow: 0, fc: 30_000 }
+            }
+            Figure::Nox => {
+                let fc = random.between(5_000, 30_000);
+                Readings { so2: 3, nox: 0, co2: random.between(1, 100), flow: 1_000, fc }
+            }
+            // CO2 100.0 would make heat too large here.
+            Figure::Co2 => return Readings { so2: 3, nox: 5, co2: 599, flow: 500_000_000, fc: 30_000 },
+        };
+        let set = |readings: &mut Readings, value: u128| match figure {
+            Figure::Nox => readings.nox = value,
+            _ => readings.flow = value,
+        };
+        // The largest reading whose figure fits lies in [low, high).
+        let (mut low, mut high) = (0, if figure == Figure::Nox { 100_000 } else { 500_000_001 });
+        let end = high;
+        while high - low > 1 {
+            let half = (low + high) / 2;
+            set(&mut readings, half);
+            if figure.of_recorded(&readings) <= limit {
+                low = half;
+            } else {
+                high = half;
+            }
+        }
+        set(&mut readings, if over { high } else { low });
+        let others_fit = FIGURES
+            .iter()
+            .zip(column_limits())
+            .all(|(&f, limit)| f == figure || f.of_recorded(&readings) <= limit);
+        if high < end && others_fit {
+            return readings;
+        }
+    }
+}
+
+/// One figure just fitting or just not, in any hour.
+fn at_limit(random: &mut Random, turn: usize) -> Order {
+    let figure = [Figure::Heat, Figure::So2, Figure::Nox][turn % 3];
+    let figure = if turn % 17 == 16 { Figure::Co2 } else { figure };
+    let count = 1 + random.below(4);
+    let mut order = order(random, count);
+    let place = WORDS * random.below(count);
+    let first = order.words[place] & 0x1FFF_FFFF;
+    let readings = limit_readings(random, figure, turn / 3 % 3 > 0);
+    let hour = Hour { hour_of_quarter: first / 128, time: 100, readings, figures: [0; 4] };
+    order.words[place..place + WORDS].copy_from_slice(&words_of(&hour));
+    order
+}
+
+/// Faults of two or more numbers in one order, to see which comes first.
+fn many_faults(random: &mut Random, turn: usize) -> Case {
+    let count = 2 + random.below(4);
+    let mut order = order(random, count);
+    let faults = [0b0011, 0b0101, 0b1001, 0b0110, 0b1010, 0b1100, 0b0111, 0b1110, 0b1111, 0b1011][turn % 10];
+    let mut ranks: Vec<usize> = (0..count).collect();
+    ranks.rotate_left(random.below(count));
+    if faults & 0b0100 != 0 {
+        let figure = random.pick(&[Figure::Heat, Figure::So2, Figure::Nox]);
+        let readings = limit_readings(random, figure, true);
+        let first = order.words[WORDS * ranks[0]] & 0x1FFF_FFFF;
+        let hour = Hour { hour_of_quarter: first / 128, time: 100, readings, figures: [0; 4] };
+        order.words[WORDS * ranks[0]..WORDS * ranks[0] + WORDS].copy_from_slice(&words_of(&hour));
+    }
+    if faults & 0b0010 != 0 {
+        let beyond = random.pick(&[
+            (1, 100_000),
+            (2, 100_000),
+            (3, 0),
+            (3, 1_001),
+            (4, 500_000_001),
+            (5, 4_999),
+            (5, 30_001),
+        ]);
+        order.words[WORDS * ranks[count / 2] + beyond.0 as usize] = word(beyond.0, beyond.1);
+    }
+    if faults & 0b0001 != 0 {
+        match random.below(6) {
+            0 => order.name = [b' '; 6],
+            1 => order.year = 2_095,
+            2 => order.quarter = 5,
+            3 => drop(order.words.pop()),
+            4 => {
+                let last = WORDS * (count - 1);
+                order.words[last] = word(0, 2_208 * 128 + 100);
+            }
+            _ => order.words[WORDS * count - 1] ^= 1 << 29,
+        }
+    }
+    let need = need(&order);
+    let room =
+        if faults & 0b1000 != 0 { random.pick(&[0, need - 1, need / 2]) } else { need + random.below(3) };
+    Case::Write { order, room }
+}

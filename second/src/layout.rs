@@ -1,0 +1,184 @@
+//! Where everything stands on a line: record types, lengths, columns, number
+//! formats and ranges, and reading and writing one number in its columns.
+
+/// A run of columns, counted from 1: the paper's "18+7" is `Columns(18, 7)`.
+#[derive(Clone, Copy, Debug, PartialEq, Eq)]
+pub struct Columns(pub usize, pub usize);
+
+impl Columns {
+    /// These columns of a line that is long enough.
+    pub fn of(self, line: &[u8]) -> &[u8] {
+        &line[self.0 - 1..self.0 - 1 + self.1]
+    }
+
+    /// The same, to be changed.
+    pub fn of_mut(self, line: &mut [u8]) -> &mut [u8] {
+        &mut line[self.0 - 1..self.0 - 1 + self.1]
+    }
+}
+
+/// One value on a line: its columns, its decimals (0 for the paper's I) and
+/// its range in the recorded unit, if it has one.
+#[derive(Clone, Copy, Debug)]
+pub struct Value {
+    pub columns: Columns,
+    pub decimals: usize,
+    pub range: Option<(u128, u128)>,
+}
+
+/// One record type.
+#[derive(Clone, Copy, Debug)]
+pub struct Record {
+    pub kind: &'static [u8; 3],
+    pub length: usize,
+    pub date: Option<Columns>,
+    pub values: &'static [Value],
+}
+
+/// The stack name stands here on every line.
+pub const NAME: Columns = Columns(4, 6);
+/// The year on line 100.
+pub const YEAR: Columns = Columns(10, 4);
+/// The quarter on line 100.
+pub const QUARTER: Columns = Columns(14, 1);
+
+/// The date and hour on a 200 line.
+pub const DATE_200: Columns = Columns(16, 8);
+
+/// A value that may be anything its columns hold.
+const fn free(start: usize, width: usize, decimals: usize) -> Value {
+    Value { columns: Columns(start, width), decimals, range: None }
+}
+
+/// A value with a range.
+const fn ranged(start: usize, width: usize, decimals: usize, low: u128, high: u128) -> Value {
+    Value { columns: Columns(start, width), decimals, range: Some((low, high)) }
+}
+
+const fn record(
+    kind: &'static [u8; 3],
+    length: usize,
+    date: Option<Columns>,
+    values: &'static [Value],
+) -> Record {
+    Record { kind, length, date, values }
+}
+
+pub const R100: Record = record(b"100", 14, None, &[]);
+pub const R200: Record = record(b"200", 40, Some(DATE_200), &[free(35, 6, 1)]);
+pub const R201: Record = record(b"201", 34, Some(Columns(16, 8)), &[free(29, 6, 1)]);
+pub const R202: Record = record(b"202", 34, Some(Columns(16, 8)), &[ranged(29, 6, 1, 1, 1000)]);
+pub const R220: Record = record(b"220", 48, Some(Columns(16, 8)), &[ranged(39, 10, 0, 0, 500_000_000)]);
+pub const R300: Record =
+    record(b"300", 42, Some(Columns(10, 8)), &[ranged(18, 4, 2, 1, 100), free(36, 7, 1)]);
+pub const R301: Record =
+    record(b"301", 48, None, &[free(10, 11, 1), free(21, 11, 1), free(32, 11, 1), free(43, 6, 3)]);
+pub const R310: Record = record(b"310", 34, Some(Columns(10, 8)), &[free(25, 7, 1)]);
+pub const R320: Record =
+    record(b"320", 54, Some(Columns(13, 8)), &[ranged(26, 10, 1, 5_000, 30_000), free(36, 6, 3)]);
+pub const R330: Record = record(b"330", 24, Some(Columns(10, 8)), &[free(18, 7, 1)]);
+
+/// The eight record types of an operating hour, in file order.
+pub const HOURLY: [Record; 8] = [R200, R201, R202, R220, R300, R310, R320, R330];
+
+/// The bytes of a report with so many operating hours.
+pub fn report_length(hours: usize) -> usize {
+    64 + 318 * hours
+}
+
+/// The line, counted from 1, of the hour with this rank (from 0) in the block
+/// `HOURLY[block]` of a report with so many hours. Line 301 stands between
+/// the blocks of 300 and 310.
+pub fn line_of(block: usize, hours: usize, rank: usize) -> usize {
+    let before = if block < 5 { 1 } else { 2 };
+    before + block * hours + rank + 1
+}
+
+/// The line, counted from 1, of the totals.
+pub fn totals_line(hours: usize) -> usize {
+    5 * hours + 2
+}
+
+/// The number in a field, or nothing if it is not in the format: blanks or
+/// none, at least one digit, and with decimals a point and exactly so many
+/// digits, to the end of the field.
+pub fn read_number(field: &[u8], decimals: usize) -> Option<u128> {
+    let blanks = field.iter().take_while(|&&b| b == b' ').count();
+    let text = &field[blanks..];
+    let (whole, fraction): (&[u8], &[u8]) = if decimals == 0 {
+        (text, &[])
+    } else {
+        let point = text.len().checked_sub(decimals + 1)?;
+        if text[point] != b'.' {
+            return None;
+        }
+        (&text[..point], &text[point + 1..])
+    };
+    if whole.is_empty() {
+        return None;
+    }
+    let mut number = 0;
+    for &byte in whole.iter().chain(fraction) {
+        if !byte.is_ascii_digit() {
+            return None;
+        }
+        number = 10 * number + u128::from(byte - b'0');
+    }
+    Some(number)
+}
+
+/// The number as text, with at least one digit before the point and no
+/// needless zero.
+pub fn plain_number(number: u128, decimals: usize) -> String {
+    if decimals == 0 {
+        return number.to_string();
+    }
+    let digits = format!("{number:0width$}", width = decimals + 1);
+    let (whole, fraction) = digits.split_at(digits.len() - decimals);
+    format!("{whole}.{fraction}")
+}
+
+/// The largest number that the columns of a value hold.
+pub fn largest(value: &Value) -> u128 {
+    let digits = value.columns.1 - usize::from(value.decimals > 0);
+    10u128.pow(digits as u32) - 1
+}
+
+#[cfg(test)]
+mod tests {
+    use super::*;
+
+    #[test]
+    fn an_hour_takes_318_bytes() {
+        let hour: usize = HOURLY.iter().map(|r| r.length + 1).sum();
+        assert_eq!(hour, 318);
+        assert_eq!(R100.length + 1 + R301.length + 1, 64);
+    }
+
+    #[test]
+    fn numbers_in_and_out_of_format() {
+        for (text, number) in [("   0.0", 0), ("9999.9", 99_999), ("0012.3", 123), ("  12.3", 123)] {
+            assert_eq!(read_number(text.as_bytes(), 1), Some(number));
+        }
+        for text in
+            ["      ", "    .5", "  12. ", " 12.3 ", " 1 2.3", " -12.3", "+12.3", "  1.23", "  1..3", "  123"]
+        {
+            assert_eq!(read_number(text.as_bytes(), 1), None, "{text}");
+        }
+        assert_eq!(read_number(b"0000000000", 0), Some(0));
+        assert_eq!(read_number(b"         7", 0), Some(7));
+        assert_eq!(read_number(b"          ", 0), None);
+        assert_eq!(read_number(b"       7.0", 0), None);
+    }
+
+    #[test]
+    fn written_numbers_are_read_back() {
+        for decimals in 0..4 {
+            for number in (0..3000).chain([99_999, 123_456_789]) {
+                let text = plain_number(number, decimals);
+                assert_eq!(read_number(text.as_bytes(), decimals), Some(number));
+            }
+        }
+        assert_eq!(plain_number(5, 3), "0.005");
+    }
+}

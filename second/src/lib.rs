@@ -1,0 +1,21 @@
+//! A second, independent implementation of the quarterly stack report.
+//!
+//! It is written from the scope paper alone, to be held against another
+//! implementation of the same paper. It can check a report, write one from a
+//! sheet of words, and make test cases from a seed together with the answers
+//! that it gives to them.
+//!
+//! Whole numbers everywhere: a reading or figure is kept in its recorded unit
+//! (tenths, thousandths, scfh), and all arithmetic is exact in 128 bits.
+
+pub mod calendar;
+pub mod cases;
+pub mod check;
+pub mod figures;
+pub mod generate;
+pub mod layout;
+pub mod list;
+pub mod random;
+pub mod report;
+pub mod rounding;
+pub mod write;

@@ -1,0 +1,145 @@
+//! A report as numbers: its hours, its totals, and its bytes.
+
+use crate::calendar::{eight_digits, moment_of};
+use crate::figures::{Figure, Readings, FIGURES};
+use crate::layout::*;
+use crate::rounding::half_up;
+
+/// One operating hour. Figures stand in the order heat, SO2, NOx, CO2.
+#[derive(Clone, Debug, Default, PartialEq, Eq)]
+pub struct Hour {
+    pub hour_of_quarter: u32,
+    pub time: u128,
+    pub readings: Readings,
+    pub figures: [u128; 4],
+}
+
+/// A whole report. Totals stand in the order SO2, CO2, heat, mean.
+#[derive(Clone, Debug, PartialEq, Eq)]
+pub struct Report {
+    pub year: u32,
+    pub quarter: u32,
+    pub name: [u8; 6],
+    pub hours: Vec<Hour>,
+    pub totals: [u128; 4],
+}
+
+/// How the parts of a report that leave a choice are put on paper.
+pub trait Pen {
+    /// A number in a field of this width.
+    fn number(&mut self, width: usize, number: u128, decimals: usize) -> Vec<u8>;
+    /// A byte for an unread column.
+    fn unread(&mut self) -> u8;
+}
+
+/// The pen of the writer: blanks before numbers, spaces in unread columns.
+pub struct PlainPen;
+
+impl Pen for PlainPen {
+    fn number(&mut self, width: usize, number: u128, decimals: usize) -> Vec<u8> {
+        format!("{:>width$}", plain_number(number, decimals)).into_bytes()
+    }
+
+    fn unread(&mut self) -> u8 {
+        b' '
+    }
+}
+
+/// The figure numbers of the four kinds in an hour's list.
+pub fn place(figure: Figure) -> usize {
+    FIGURES.iter().position(|&f| f == figure).unwrap_or(0)
+}
+
+/// The totals formed from recorded figures, given as (time, figures) of each
+/// hour: SO2, CO2 and heat in tenths, the mean NOx in thousandths.
+pub fn totals_of<'a>(hours: impl Iterator<Item = (u128, &'a [u128; 4])>) -> [u128; 4] {
+    let (mut so2, mut co2, mut heat, mut nox, mut count) = (0, 0, 0, 0, 0);
+    for (time, figures) in hours {
+        heat += figures[0] * time;
+        so2 += figures[1] * time;
+        nox += figures[2];
+        co2 += figures[3] * time;
+        count += 1;
+    }
+    // Tenths of lb/hr times hundredths of hours are thousandths of pounds;
+    // 2,000 pounds are a ton, and a tenth of a ton is wanted.
+    let mean = if count == 0 { 0 } else { half_up(nox, count) };
+    [half_up(so2, 200_000), half_up(co2, 100), half_up(heat, 100), mean]
+}
+
+impl Report {
+    /// Sets the totals to those of the figures.
+    pub fn add_up(&mut self) {
+        self.totals = totals_of(self.hours.iter().map(|h| (h.time, &h.figures)));
+    }
+
+    /// Whether every number fits into its columns.
+    pub fn fits(&self) -> bool {
+        HOURLY.iter().chain([&R301]).all(|record| {
+            let one = |hour: Option<&Hour>| {
+                let numbers = self.numbers(record, hour);
+                numbers.iter().zip(record.values).all(|(&n, v)| n <= largest(v))
+            };
+            match record.date {
+                Some(_) => self.hours.iter().all(|hour| one(Some(hour))),
+                None => one(None),
+            }
+        })
+    }
+
+    /// The values of one line, left to right.
+    fn numbers(&self, record: &Record, hour: Option<&Hour>) -> Vec<u128> {
+        let Some(Hour { time, readings: r, figures: f, .. }) = hour else {
+            return if record.kind == b"301" { self.totals.to_vec() } else { Vec::new() };
+        };
+        match record.kind {
+            b"200" => vec![r.so2],
+            b"201" => vec![r.nox],
+            b"202" => vec![r.co2],
+            b"220" => vec![r.flow],
+            b"300" => vec![*time, f[0]],
+            b"310" => vec![f[1]],
+            b"320" => vec![r.fc, f[2]],
+            _ => vec![f[3]],
+        }
+    }
+
+    /// Puts one line with its end on paper.
+    fn line(&self, pen: &mut dyn Pen, record: &Record, hour: Option<&Hour>, paper: &mut Vec<u8>) {
+        let mut line: Vec<u8> = (0..record.length).map(|_| pen.unread()).collect();
+        line[..3].copy_from_slice(record.kind);
+        NAME.of_mut(&mut line).copy_from_slice(&self.name);
+        if record.kind == b"100" {
+            let year = format!("{:04}", self.year);
+            YEAR.of_mut(&mut line).copy_from_slice(year.as_bytes());
+            QUARTER.of_mut(&mut line).copy_from_slice(self.quarter.to_string().as_bytes());
+        }
+        if let (Some(columns), Some(hour)) = (record.date, hour) {
+            let moment = moment_of(self.year, self.quarter, hour.hour_of_quarter);
+            let date = eight_digits(self.year, moment);
+            columns.of_mut(&mut line).copy_from_slice(date.as_bytes());
+        }
+        for (number, value) in self.numbers(record, hour).into_iter().zip(record.values) {
+            let text = pen.number(value.columns.1, number, value.decimals);
+            value.columns.of_mut(&mut line).copy_from_slice(&text);
+        }
+        paper.append(&mut line);
+        paper.push(b'\n');
+    }
+
+    /// The bytes of the report. Year below 10,000, quarter 1 to 4, and numbers
+    /// that fit are needed.
+    pub fn bytes(&self, pen: &mut dyn Pen) -> Vec<u8> {
+        let mut paper = Vec::with_capacity(report_length(self.hours.len()));
+        self.line(pen, &R100, None, &mut paper);
+        for (block, record) in HOURLY.iter().enumerate() {
+            if block == 5 {
+                self.line(pen, &R301, None, &mut paper);
+            }
+            for hour in &self.hours {
+                self.line(pen, record, Some(hour), &mut paper);
+            }
+        }
+        paper
+    }
+}

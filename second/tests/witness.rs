@@ -1,0 +1,233 @@
+//! The fast test of a figure against the definition: unrounded readings that
+//! lie behind the figure are searched for and, when found, tried with the
+//! formulas as the paper writes them, in fractions of any size.
+//!
+//! The search walks on a straight line from the corner of the spans where the
+//! formula is least to the corner where it is greatest, in 2^64 steps. On the
+//! way the formula only grows. The smallest step that is not below the
+//! figure's span is found by halving; it is a witness, or there is none.
+//!
+//! That 2^64 steps are enough: in halves of the figure's unit, one step moves
+//! the value by less than 2*10^-12. The stretch where the formula's values meet
+//! the figure's span, if there is one, is at least 4*10^-10 long (its ends are
+//! fractions with denominators of at most 2,001,000,000, the figure's span is 2
+//! long) or holds the whole walk. So some step falls inside it.
+
+#[path = "support/bignat.rs"]
+mod bignat;
+
+use bignat::Big;
+use second::figures::{Figure, Readings, FIGURES};
+use second::generate::tight;
+use second::random::Random;
+
+/// The steps of the walk.
+const STEPS: u128 = 1 << 64;
+
+/// A fraction: a whole number over a whole number of at least 1.
+#[derive(Clone, Debug)]
+struct Fraction {
+    top: Big,
+    bottom: Big,
+}
+
+impl Fraction {
+    fn times(&self, other: &Fraction) -> Fraction {
+        Fraction { top: self.top.times(&other.top), bottom: self.bottom.times(&other.bottom) }
+    }
+
+    fn over(&self, other: &Fraction) -> Fraction {
+        Fraction { top: self.top.times(&other.bottom), bottom: self.bottom.times(&other.top) }
+    }
+}
+
+fn fraction(top: u128, bottom: u128) -> Fraction {
+    Fraction { top: Big::of(top), bottom: Big::of(bottom) }
+}
+
+/// Whether a value is at least v - u/2, for `recorded` = v/u and
+/// `per_unit` = 1/u.
+fn reaches(value: &Fraction, recorded: u128, per_unit: u128) -> bool {
+    recorded == 0 || value.top.times_small(2 * per_unit) >= value.bottom.times_small(2 * recorded - 1)
+}
+
+/// Whether a value rounds to the recorded number.
+fn rounds_to(value: &Fraction, recorded: u128, per_unit: u128) -> bool {
+    reaches(value, recorded, per_unit)
+        && value.top.times_small(2 * per_unit) < value.bottom.times_small(2 * recorded + 1)
+}
+
+/// The place after `step` of all steps from the lower end of a recorded
+/// reading's span to its upper end.
+fn walk(recorded: u128, per_unit: u128, step: u128) -> Fraction {
+    let low = (2 * recorded).saturating_sub(1);
+    let width = 2 * recorded + 1 - low;
+    fraction(low * STEPS + width * step, 2 * per_unit * STEPS)
+}
+
+/// A formula of the paper, with its two unrounded readings in the paper's
+/// units; `fc` is in tenths.
+fn formula(figure: Figure, x: &Fraction, y: &Fraction, fc: u128) -> Fraction {
+    let fc = fraction(fc, 10);
+    match figure {
+        // flow x, CO2 y
+        Figure::Heat => x.times(y).over(&fraction(100, 1).times(&fc)),
+        // SO2 x, flow y
+        Figure::So2 => fraction(1_660, 10_000_000_000).times(x).times(y),
+        // NOx x, CO2 y
+        Figure::Nox => fraction(1_194, 10_000_000_000).times(x).times(&fc).times(&fraction(100, 1)).over(y),
+        // CO2 x, flow y
+        Figure::Co2 => fraction(57, 100_000_000).times(x).times(y),
+    }
+}
+
+/// The two recorded readings of a formula with the parts of their units, and
+/// the parts of the figure's unit.
+fn inputs(figure: Figure, r: &Readings) -> ((u128, u128), (u128, u128), u128) {
+    match figure {
+        Figure::Heat => ((r.flow, 1), (r.co2, 10), 10),
+        Figure::So2 => ((r.so2, 10), (r.flow, 1), 10),
+        Figure::Nox => ((r.nox, 10), (r.co2, 10), 1_000),
+        Figure::Co2 => ((r.co2, 10), (r.flow, 1), 10),
+    }
+}
+
+/// Two unrounded readings that lie behind the figure, or nothing.
+fn witness(figure: Figure, readings: &Readings, wanted: u128) -> Option<(Fraction, Fraction)> {
+    let ((x, x_unit), (y, y_unit), unit) = inputs(figure, readings);
+    let at = |step: u128| {
+        // The quotient grows while its lower reading shrinks.
+        let y_step = if figure == Figure::Nox { STEPS - step } else { step };
+        (walk(x, x_unit, step), walk(y, y_unit, y_step))
+    };
+    let value = |step: u128| {
+        let (x, y) = at(step);
+        formula(figure, &x, &y, readings.fc)
+    };
+    let first = u128::from(figure == Figure::Nox);
+    let (mut low, mut high) = (first, STEPS - 1);
+    while low < high {
+        let half = (low + high) / 2;
+        if reaches(&value(half), wanted, unit) {
+            high = half;
+        } else {
+            low = half + 1;
+        }
+    }
+    let (a, b) = at(low);
+    let lies_behind = rounds_to(&a, x, x_unit)
+        && rounds_to(&b, y, y_unit)
+        && rounds_to(&formula(figure, &a, &b, readings.fc), wanted, unit);
+    lies_behind.then_some((a, b))
+}
+
+/// Both tests say the same; returns what.
+fn agree(figure: Figure, readings: &Readings, wanted: u128) -> bool {
+    let fast = figure.possible(readings, wanted);
+    let found = witness(figure, readings, wanted).is_some();
+    assert_eq!(fast, found, "{figure:?} {readings:?} {wanted}");
+    fast
+}
+
+/// Agreement at both edges of a figure and beside them.
+fn agree_at_edges(figure: Figure, readings: &Readings) {
+    let (low, high) = figure.edges(readings);
+    assert!(agree(figure, readings, low));
+    assert!(agree(figure, readings, high));
+    assert!(!agree(figure, readings, high + 1));
+    assert!(low == 0 || !agree(figure, readings, low - 1));
+}
+
+#[test]
+fn hours_to_try() {
+    let row = Readings { so2: 2_500, nox: 2_000, co2: 120, flow: 20_000_000, fc: 18_000 };
+    let dark = Readings { so2: 0, ..row };
+    let still = Readings { so2: 0, flow: 0, ..row };
+    let thick = Readings { so2: 99_999, flow: 1_000_000, ..row };
+    let table: [(Figure, Readings, &[u128], &[u128]); 7] = [
+        (Figure::So2, row, &[8_298, 8_302], &[8_297, 8_303]),
+        (Figure::Co2, row, &[1_362, 1_374], &[1_361, 1_375]),
+        (Figure::Heat, row, &[13_278, 13_389], &[13_277, 13_390]),
+        (Figure::Nox, row, &[357, 360], &[356, 361]),
+        (Figure::So2, dark, &[0, 2], &[3]),
+        (Figure::So2, still, &[0], &[1]),
+        (Figure::So2, thick, &[16_600], &[16_599, 16_601]),
+    ];
+    for (figure, readings, passing, outside) in table {
+        assert!(passing.iter().all(|&wanted| agree(figure, &readings, wanted)));
+        assert!(!outside.iter().any(|&wanted| agree(figure, &readings, wanted)));
+    }
+}
+
+/// A NOx figure whose span starts exactly where the values end does not pass,
+/// nor does one whose span ends exactly where they start.
+#[test]
+fn ends_that_meet_exactly() {
+    for m in [1, 3, 5, 7, 99, 1_001] {
+        let upper = Readings { nox: (25 * m - 1) / 2, co2: 100, fc: 10_000, ..Readings::default() };
+        let figure = (3 * m).div_ceil(2);
+        assert!(!agree(Figure::Nox, &upper, figure));
+        assert!(agree(Figure::Nox, &upper, figure - 1));
+        let lower = Readings { nox: (25 * m).div_ceil(2), co2: 99, fc: 10_000, ..Readings::default() };
+        let figure = (3 * m - 1) / 2;
+        assert!(!agree(Figure::Nox, &lower, figure));
+        assert!(agree(Figure::Nox, &lower, figure + 1));
+    }
+}
+
+#[test]
+fn ends_of_all_ranges() {
+    for so2 in [0, 1, 99_999] {
+        for co2 in [1, 2, 999, 1_000] {
+            for flow in [0, 1, 2, 499_999_999, 500_000_000] {
+                for fc in [5_000, 18_000, 30_000] {
+                    let readings = Readings { so2, nox: 99_999 - so2, co2, flow, fc };
+                    FIGURES.iter().for_each(|&figure| agree_at_edges(figure, &readings));
+                }
+            }
+        }
+    }
+}
+
+#[test]
+fn many_random_hours() {
+    let mut random = Random::new(20_261);
+    for _ in 0..400 {
+        let readings = Readings {
+            so2: random.spread(99_999),
+            nox: random.spread(99_999),
+            co2: random.spread(1_000).max(1),
+            flow: random.spread(500_000_000),
+            fc: random.between(5_000, 30_000),
+        };
+        for figure in FIGURES {
+            agree_at_edges(figure, &readings);
+            let middle = figure.of_recorded(&readings);
+            assert!(agree(figure, &readings, middle));
+            let distance = random.spread(1_000);
+            agree(figure, &readings, middle + distance);
+            agree(figure, &readings, middle.saturating_sub(distance));
+        }
+    }
+}
+
+#[test]
+fn the_tightest_edges() {
+    let mut random = Random::new(5);
+    for figure in FIGURES {
+        let (mut passed, mut failed) = (0, 0);
+        for turn in 0..8_000 {
+            if let Some((readings, wanted)) = tight::find(&mut random, figure, turn) {
+                if agree(figure, &readings, wanted) {
+                    passed += 1;
+                } else {
+                    failed += 1;
+                }
+            }
+            if passed + failed > 400 {
+                break;
+            }
+        }
+        assert!(passed > 20 && failed > 20, "{figure:?} {passed} {failed}");
+    }
+}
