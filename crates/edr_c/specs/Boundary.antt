@@ -1,0 +1,24 @@
+-- What the functions of the boundary return and leave in a lent slice.
+-- Assumes nothing.
+use Prim.Native.Nat.{ℕ}
+use mathlib.Core.List.{List, _++_}
+use mathlib.Core.Bool.{true, false}
+use lib.Dec.{ltb}
+use lib.ListN.{length, drop}
+use Rattle.checker.specs.Checked.{numbersOf, checked}
+use Rattle.checker.specs.declared.Answer.{Answer}
+use Rattle.checker.specs.declared.Answer.the-variants.{Accepted, Refused}
+
+abbrev pub codeOf : Answer → ℕ
+codeOf (Accepted r) = 1
+codeOf (Refused r) = 0
+
+-- the answer's numbers, and behind them what was there
+abbrev pub filled : Answer → List ℕ → List ℕ
+filled a buffer = numbersOf a ++ drop (length (numbersOf a)) buffer
+
+unfoldable pub checkCode : List ℕ → List ℕ → ℕ
+checkCode file buffer = elim (ltb (length buffer) 5) [ true ↦ 2 | false ↦ codeOf (checked file) ]
+
+unfoldable pub checkFilled : List ℕ → List ℕ → List ℕ
+checkFilled file buffer = elim (ltb (length buffer) 5) [ true ↦ buffer | false ↦ filled (checked file) buffer ]

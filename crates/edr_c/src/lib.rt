@@ -1,0 +1,30 @@
+// The boundary for C and Rust: the check on plain numbers and slices.
+use checker::Answer;
+ghost use mathlib.Core.Path.{_≡_};
+ghost use Rattle.edr_c.specs.Boundary.{checkCode, checkFilled};
+
+// 1 and n, SO2, CO2, heat and mean in answer[0..5] where the report is accepted; 0 and number and line in answer[0..2] where it is
+// refused; 2 where the answer has fewer than five elements. Elements beyond keep their values.
+#[no_mangle]
+pub extern "C" fn edr_check(file: &[u8], answer: &mut [u64]) -> u64
+    ensures { λ r. ⌜ (r ≡ checkCode (now (file .entry)) (now (answer .entry))) × (now (answer .exit) ≡ checkFilled (now (file .entry)) (now (answer .entry))) ⌝ }
+{
+    if answer.len() < 5 {
+        return 2;
+    }
+    match checker::check(file) {
+        Answer::Accepted(quarter) => {
+            answer[0] = quarter.hours;
+            answer[1] = quarter.so2;
+            answer[2] = quarter.co2;
+            answer[3] = quarter.heat;
+            answer[4] = quarter.nox;
+            1
+        }
+        Answer::Refused(refusal) => {
+            answer[0] = refusal.number;
+            answer[1] = refusal.line as u64;
+            0
+        }
+    }
+}
