@@ -6,8 +6,8 @@ mod edges;
 mod files;
 mod page;
 mod quarters;
-mod recorder;
-mod sheets;
+pub mod recorder;
+pub mod sheets;
 pub mod tight;
 
 use crate::cases::Case;
