@@ -1,0 +1,72 @@
+-- Lines written step by step: blanks one by one, values one by one, and a record with its byte 10 as a part of the buffer.
+-- Assumes nothing.
+use Prim.Native.Nat.{ℕ, suc, _+_, _-_, _≤_, _<_}
+use mathlib.Core.Path.{_≡_, ap, _∙_}
+use mathlib.Core.List.{List, [], _∷_, _++_}
+use native.Mathlib.Omega.{arith}
+use native.Mathlib.Nat.{add-sub-cancel-left}
+use native.Mathlib.Numerals.{add-one}
+use lib.ListN.{length, take, drop, set, getD, replicate, replicate-append-replicate, length-drop, drop-of-length-le}
+use lib.Seq.{length-take-le, drop-cons, drop-drop, set-split, take-suc-set, getD-take}
+use borrow.Rule.Slice.PartMut.{putMid}
+use Rattle.columns.specs.Columns.{put}
+use Rattle.columns.specs.ColumnsLaws.{put-length, put-beside}
+use Rattle.columns.specs.Written.{written}
+use Rattle.edr.specs.Layout.{valueCount, valuesOf, valueAt, rangedValue}
+use Rattle.edr.specs.ValueLaws.{value-count, value-of}
+use Rattle.edr.specs.declared.layout.RecordType.{RecordType}
+use Rattle.writer.specs.Written.{valued, ended}
+use Rattle.writer.specs.LineLaws.{values-few}
+
+-- blanks up to place i, and one more
+pub blank-more : (l : List ℕ) (i : ℕ) → i < length l → take i l ≡ replicate i 32 → take (i + 1) (set l i 32) ≡ replicate (i + 1) 32
+blank-more l i h e =
+    ap (λ (n : ℕ). take n (set l i 32)) (add-one i)
+    ∙ take-suc-set l i 32 h
+    ∙ ap (λ (bs : List ℕ). bs ++ (32 ∷ [])) e
+    ∙ replicate-append-replicate i 1 32
+
+-- the values of a record from the i-th on
+module _ (t : RecordType) (values : List ℕ) where
+  abbrev pub valuesLeft : ℕ → List ℕ → List ℕ
+  valuesLeft i line = valued (drop i (valuesOf t)) (drop i (take (valueCount t) values)) line
+
+  pub values-more : (i : ℕ) (line : List ℕ) → i < valueCount t
+      → length values ≡ 4 → valuesLeft (i + 1) (put (valueAt t i .start) (written (valueAt t i .width) (valueAt t i .decimals) (getD values i 0)) line) ≡ valuesLeft i line
+  unfolding valued
+  values-more i line h four =
+      let n : length (take (valueCount t) values) ≡ valueCount t = length-take-le (valueCount t) values (omega (arith, values-few t)) in
+      let a : i < length (take (valueCount t) values) = omega arith in
+      let b : i < length (valuesOf t) = omega (arith, value-count t) in
+      rw (add-one i, drop-cons (valuesOf t) i (rangedValue 0 0 0 0 0) b, drop-cons (take (valueCount t) values) i 0 a, value-of t i h, getD-take (valueCount t) values i 0 h)
+
+  pub values-end : (i : ℕ) (line : List ℕ) → valueCount t ≤ i → valuesLeft i line ≡ line
+  unfolding valued
+  values-end i line h =
+      let b : length (valuesOf t) ≤ i = omega (arith, value-count t) in
+      rw (drop-of-length-le (valuesOf t) b)
+
+-- a record of known length and its byte 10, written into their part of the buffer
+module _ (at long : ℕ) (l bytes : List ℕ) (e : length bytes ≡ long) (room : at + long < length l) where
+  part-put : putMid at (at + long - at) l bytes ≡ put (at + 1) bytes l
+  unfolding put
+  part-put =
+      let a : at + 1 - 1 ≡ at = omega arith in
+      rw (add-sub-cancel-left at long, a, ← e, drop-drop)
+
+  pub part-length : length (take (at + long - at) (drop at l)) ≡ long
+  part-length = rw (add-sub-cancel-left at long) (length-take-le long (drop at l) (rw length-drop (omega arith)))
+
+  byte-put : (m : List ℕ) → length m ≡ length l → set m (at + long) 10 ≡ put (at + 1 + length bytes) (10 ∷ []) m
+  unfolding put
+  byte-put m k =
+      let a : at + 1 + length bytes - 1 ≡ at + long = omega arith in
+      let b : at + long + 1 ≡ suc (at + long) = omega arith in
+      rw (a, b) (set-split m (at + long) 10 (omega arith))
+
+  pub line-put : set (putMid at (at + long - at) l bytes) (at + long) 10 ≡ put (at + 1) (ended bytes) l
+  line-put =
+      let f : at + 1 - 1 + length bytes ≤ length l = omega arith in
+      ap (λ (m : List ℕ). set m (at + long) 10) part-put
+      ∙ byte-put (put (at + 1) bytes l) (put-length (at + 1) bytes l f)
+      ∙ put-beside (at + 1) bytes l f (10 ∷ []) (omega arith)

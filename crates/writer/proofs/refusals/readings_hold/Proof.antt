@@ -1,0 +1,119 @@
+-- `writer::refusals::readings_hold` meets its contract, value by value. Assumes nothing.
+use borrow.Author.Tests.{not-true, not-false}
+use Rattle.edr.specs.Layout.{values}
+use Rattle.writer.specs.Refusals.{readingsHold}
+use borrow.Author.Needs.{needs}
+use Rattle.writer.proofs.refusals.readings_hold.Statement.{statement}
+use Rattle.writer.proofs.refusals.readings_hold.Tie as tie
+
+in-range-requires : tie.Need-in-range-requires
+in-range-requires c κs = search needs
+
+returns : tie.Need-returns
+unfolding readingsHold values
+returns c =
+    rw (
+      ← c .before .in-range .ensures,
+      not-true (c .before .in-range .result) (c .if1 .taken),
+    )
+
+in-range-requires-2 : tie.Need-in-range-requires-2
+in-range-requires-2 c κs = search needs
+
+returns-2 : tie.Need-returns-2
+unfolding readingsHold values
+returns-2 c =
+    rw (
+      ← c .before .before .before .in-range .ensures,
+      not-false (c .before .before .before .in-range .result) (c .before .before .if1 .left),
+      ← c .before .in-range2 .ensures,
+      not-true (c .before .in-range2 .result) (c .if2 .taken),
+    )
+
+in-range-requires-3 : tie.Need-in-range-requires-3
+in-range-requires-3 c κs = search needs
+
+returns-3 : tie.Need-returns-3
+unfolding readingsHold values
+returns-3 c =
+    rw (
+      ← c .before .before .before .before .before .in-range .ensures,
+      not-false (c .before .before .before .before .before .in-range .result) (c .before .before .before .before .if1 .left),
+      ← c .before .before .before .in-range2 .ensures,
+      not-false (c .before .before .before .in-range2 .result) (c .before .before .if2 .left),
+      ← c .before .in-range3 .ensures,
+      not-true (c .before .in-range3 .result) (c .if3 .taken),
+    )
+
+in-range-requires-4 : tie.Need-in-range-requires-4
+in-range-requires-4 c κs = search needs
+
+returns-4 : tie.Need-returns-4
+unfolding readingsHold values
+returns-4 c =
+    rw (
+      ← c .before .before .before .before .before .before .before .in-range .ensures,
+      not-false (c .before .before .before .before .before .before .before .in-range .result) (c .before .before .before .before .before .before .if1 .left),
+      ← c .before .before .before .before .before .in-range2 .ensures,
+      not-false (c .before .before .before .before .before .in-range2 .result) (c .before .before .before .before .if2 .left),
+      ← c .before .before .before .in-range3 .ensures,
+      not-false (c .before .before .before .in-range3 .result) (c .before .before .if3 .left),
+      ← c .before .in-range4 .ensures,
+      not-true (c .before .in-range4 .result) (c .if4 .taken),
+    )
+
+in-range-requires-5 : tie.Need-in-range-requires-5
+in-range-requires-5 c κs = search needs
+
+returns-5 : tie.Need-returns-5
+unfolding readingsHold values
+returns-5 c =
+    rw (
+      ← c .before .before .before .before .before .before .before .before .before .in-range .ensures,
+      not-false (c .before .before .before .before .before .before .before .before .before .in-range .result) (c .before .before .before .before .before .before .before .before .if1 .left),
+      ← c .before .before .before .before .before .before .before .in-range2 .ensures,
+      not-false (c .before .before .before .before .before .before .before .in-range2 .result) (c .before .before .before .before .before .before .if2 .left),
+      ← c .before .before .before .before .before .in-range3 .ensures,
+      not-false (c .before .before .before .before .before .in-range3 .result) (c .before .before .before .before .if3 .left),
+      ← c .before .before .before .in-range4 .ensures,
+      not-false (c .before .before .before .in-range4 .result) (c .before .before .if4 .left),
+      ← c .before .in-range5 .ensures,
+      not-true (c .before .in-range5 .result) (c .if5 .taken),
+    )
+
+in-range-requires-6 : tie.Need-in-range-requires-6
+in-range-requires-6 c κs = search needs
+
+returns-6 : tie.Need-returns-6
+unfolding readingsHold values
+returns-6 c =
+    rw (
+      ← c .before .before .before .before .before .before .before .before .before .before .in-range .ensures,
+      not-false (c .before .before .before .before .before .before .before .before .before .before .in-range .result) (c .before .before .before .before .before .before .before .before .before .if1 .left),
+      ← c .before .before .before .before .before .before .before .before .in-range2 .ensures,
+      not-false (c .before .before .before .before .before .before .before .before .in-range2 .result) (c .before .before .before .before .before .before .before .if2 .left),
+      ← c .before .before .before .before .before .before .in-range3 .ensures,
+      not-false (c .before .before .before .before .before .before .in-range3 .result) (c .before .before .before .before .before .if3 .left),
+      ← c .before .before .before .before .in-range4 .ensures,
+      not-false (c .before .before .before .before .in-range4 .result) (c .before .before .before .if4 .left),
+      ← c .before .before .in-range5 .ensures,
+      not-false (c .before .before .in-range5 .result) (c .before .if5 .left),
+      ← c .in-range6 .ensures,
+    )
+
+pub readings-hold-spec : {M : Type 1} → statement M
+readings-hold-spec =
+    tie.close
+    (tie.spec
+    in-range-requires
+    returns
+    in-range-requires-2
+    returns-2
+    in-range-requires-3
+    returns-3
+    in-range-requires-4
+    returns-4
+    in-range-requires-5
+    returns-5
+    in-range-requires-6
+    returns-6)

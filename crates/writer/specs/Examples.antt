@@ -1,0 +1,68 @@
+-- 01's worked hour and its empty quarter: what the writer gives for them, byte by byte.
+-- Assumes nothing.
+use mathlib.Core.Path.{_≡_, refl}
+use mathlib.Core.List.{List, [], _∷_}
+use Prim.Native.Nat.{ℕ, _+_, _*_, _^_}
+use lib.ListN.{replicate}
+use Rattle.columns.specs.Bytes.{all}
+use Rattle.columns.specs.Columns.{put}
+use Rattle.columns.specs.Written.{digitsOf, digitOrBlank, leading, wholeWritten, fixedWritten, written}
+use Rattle.calendar.specs.Calendar.{leapYear, daysInMonth, daysInQuarter, hoursInQuarter, daysBefore, monthOfDay, dateOfHour}
+use Rattle.exact.specs.Fraction.{over}
+use Rattle.exact.specs.Sums.{totalOf}
+use Rattle.edr.specs.Layout.{values}
+use Rattle.edr.specs.Stamp.{stampNumber, stampOf}
+use Rattle.edr.specs.Formulas.{roundedValue, roundedFigures}
+use Rattle.edr.specs.Totals.{totalsOf, meanOf, quarterOf, quarterTotals}
+use Rattle.writer.specs.Sheet.{hourAt, hoursFrom, hoursOf, recordedHours}
+use Rattle.writer.specs.Refusals.{every, headingHolds, kindsHold, hoursRise, sheetHolds, inRange, readingsHold, figuresHold, refusalOf}
+use Rattle.writer.specs.Written.{headed, valued, facilityRecord, hourRecord, totalsRecord, runOf, runsOf, report, answered, buffered}
+use Rattle.writer.specs.declared.Written.the-variants.{Length}
+
+-- STACK1
+abbrev pub stack : List ℕ
+stack = 83 ∷ 84 ∷ 65 ∷ 67 ∷ 75 ∷ 49 ∷ []
+
+-- hour 0 for 0.50 hours, SO2 250.0, NOx 200.0, CO2 12.0, flow 20,000,000, Fc 1,800.0
+abbrev pub workedSheet : List ℕ
+workedSheet =
+    (0 * 2 ^ 29 + 50)
+    ∷ (1 * 2 ^ 29 + 2500)
+    ∷ (2 * 2 ^ 29 + 2000)
+    ∷ (3 * 2 ^ 29 + 120)
+    ∷ (4 * 2 ^ 29 + 20_000_000)
+    ∷ (5 * 2 ^ 29 + 18_000)
+    ∷ []
+
+-- 2005, quarter 3
+pub worked : List ℕ
+worked =
+    49 ∷ 48 ∷ 48 ∷ 83 ∷ 84 ∷ 65 ∷ 67 ∷ 75 ∷ 49 ∷ 50 ∷ 48 ∷ 48 ∷ 53 ∷ 51 ∷ 10 ∷ 50 ∷ 48 ∷ 48 ∷ 83 ∷ 84 ∷ 65 ∷ 67 ∷ 75 ∷ 49 ∷ 32 ∷ 32 ∷ 32 ∷ 32 ∷
+    32 ∷ 32 ∷ 48 ∷ 53 ∷ 48 ∷ 55 ∷ 48 ∷ 49 ∷ 48 ∷ 48 ∷ 32 ∷ 32 ∷ 32 ∷ 32 ∷ 32 ∷ 32 ∷ 32 ∷ 32 ∷ 32 ∷ 32 ∷ 32 ∷ 32 ∷ 50 ∷ 53 ∷ 48 ∷ 46 ∷ 48 ∷ 10 ∷
+    50 ∷ 48 ∷ 49 ∷ 83 ∷ 84 ∷ 65 ∷ 67 ∷ 75 ∷ 49 ∷ 32 ∷ 32 ∷ 32 ∷ 32 ∷ 32 ∷ 32 ∷ 48 ∷ 53 ∷ 48 ∷ 55 ∷ 48 ∷ 49 ∷ 48 ∷ 48 ∷ 32 ∷ 32 ∷ 32 ∷ 32 ∷ 32 ∷
+    32 ∷ 50 ∷ 48 ∷ 48 ∷ 46 ∷ 48 ∷ 10 ∷ 50 ∷ 48 ∷ 50 ∷ 83 ∷ 84 ∷ 65 ∷ 67 ∷ 75 ∷ 49 ∷ 32 ∷ 32 ∷ 32 ∷ 32 ∷ 32 ∷ 32 ∷ 48 ∷ 53 ∷ 48 ∷ 55 ∷ 48 ∷ 49 ∷
+    48 ∷ 48 ∷ 32 ∷ 32 ∷ 32 ∷ 32 ∷ 32 ∷ 32 ∷ 32 ∷ 49 ∷ 50 ∷ 46 ∷ 48 ∷ 10 ∷ 50 ∷ 50 ∷ 48 ∷ 83 ∷ 84 ∷ 65 ∷ 67 ∷ 75 ∷ 49 ∷ 32 ∷ 32 ∷ 32 ∷ 32 ∷ 32 ∷
+    32 ∷ 48 ∷ 53 ∷ 48 ∷ 55 ∷ 48 ∷ 49 ∷ 48 ∷ 48 ∷ 32 ∷ 32 ∷ 32 ∷ 32 ∷ 32 ∷ 32 ∷ 32 ∷ 32 ∷ 32 ∷ 32 ∷ 32 ∷ 32 ∷ 32 ∷ 32 ∷ 32 ∷ 32 ∷ 32 ∷ 50 ∷ 48 ∷
+    48 ∷ 48 ∷ 48 ∷ 48 ∷ 48 ∷ 48 ∷ 10 ∷ 51 ∷ 48 ∷ 48 ∷ 83 ∷ 84 ∷ 65 ∷ 67 ∷ 75 ∷ 49 ∷ 48 ∷ 53 ∷ 48 ∷ 55 ∷ 48 ∷ 49 ∷ 48 ∷ 48 ∷ 48 ∷ 46 ∷ 53 ∷ 48 ∷
+    32 ∷ 32 ∷ 32 ∷ 32 ∷ 32 ∷ 32 ∷ 32 ∷ 32 ∷ 32 ∷ 32 ∷ 32 ∷ 32 ∷ 32 ∷ 32 ∷ 32 ∷ 49 ∷ 51 ∷ 51 ∷ 51 ∷ 46 ∷ 51 ∷ 10 ∷ 51 ∷ 48 ∷ 49 ∷ 83 ∷ 84 ∷ 65 ∷
+    67 ∷ 75 ∷ 49 ∷ 32 ∷ 32 ∷ 32 ∷ 32 ∷ 32 ∷ 32 ∷ 32 ∷ 32 ∷ 48 ∷ 46 ∷ 50 ∷ 32 ∷ 32 ∷ 32 ∷ 32 ∷ 32 ∷ 32 ∷ 32 ∷ 54 ∷ 56 ∷ 46 ∷ 52 ∷ 32 ∷ 32 ∷ 32 ∷
+    32 ∷ 32 ∷ 32 ∷ 54 ∷ 54 ∷ 54 ∷ 46 ∷ 55 ∷ 32 ∷ 48 ∷ 46 ∷ 51 ∷ 53 ∷ 56 ∷ 10 ∷ 51 ∷ 49 ∷ 48 ∷ 83 ∷ 84 ∷ 65 ∷ 67 ∷ 75 ∷ 49 ∷ 48 ∷ 53 ∷ 48 ∷ 55 ∷
+    48 ∷ 49 ∷ 48 ∷ 48 ∷ 32 ∷ 32 ∷ 32 ∷ 32 ∷ 32 ∷ 32 ∷ 32 ∷ 32 ∷ 32 ∷ 56 ∷ 51 ∷ 48 ∷ 46 ∷ 48 ∷ 32 ∷ 32 ∷ 32 ∷ 10 ∷ 51 ∷ 50 ∷ 48 ∷ 83 ∷ 84 ∷ 65 ∷
+    67 ∷ 75 ∷ 49 ∷ 32 ∷ 32 ∷ 32 ∷ 48 ∷ 53 ∷ 48 ∷ 55 ∷ 48 ∷ 49 ∷ 48 ∷ 48 ∷ 32 ∷ 32 ∷ 32 ∷ 32 ∷ 32 ∷ 32 ∷ 32 ∷ 32 ∷ 32 ∷ 49 ∷ 56 ∷ 48 ∷ 48 ∷ 46 ∷
+    48 ∷ 32 ∷ 48 ∷ 46 ∷ 51 ∷ 53 ∷ 56 ∷ 32 ∷ 32 ∷ 32 ∷ 32 ∷ 32 ∷ 32 ∷ 32 ∷ 32 ∷ 32 ∷ 32 ∷ 32 ∷ 32 ∷ 32 ∷ 10 ∷ 51 ∷ 51 ∷ 48 ∷ 83 ∷ 84 ∷ 65 ∷ 67 ∷
+    75 ∷ 49 ∷ 48 ∷ 53 ∷ 48 ∷ 55 ∷ 48 ∷ 49 ∷ 48 ∷ 48 ∷ 32 ∷ 32 ∷ 49 ∷ 51 ∷ 54 ∷ 46 ∷ 56 ∷ 10 ∷ []
+
+-- without hours, and with zero totals
+pub empty : List ℕ
+empty =
+    49 ∷ 48 ∷ 48 ∷ 83 ∷ 84 ∷ 65 ∷ 67 ∷ 75 ∷ 49 ∷ 50 ∷ 48 ∷ 48 ∷ 53 ∷ 51 ∷ 10 ∷ 51 ∷ 48 ∷ 49 ∷ 83 ∷ 84 ∷ 65 ∷ 67 ∷ 75 ∷ 49 ∷ 32 ∷ 32 ∷ 32 ∷ 32 ∷
+    32 ∷ 32 ∷ 32 ∷ 32 ∷ 48 ∷ 46 ∷ 48 ∷ 32 ∷ 32 ∷ 32 ∷ 32 ∷ 32 ∷ 32 ∷ 32 ∷ 32 ∷ 48 ∷ 46 ∷ 48 ∷ 32 ∷ 32 ∷ 32 ∷ 32 ∷ 32 ∷ 32 ∷ 32 ∷ 32 ∷ 48 ∷ 46 ∷
+    48 ∷ 32 ∷ 48 ∷ 46 ∷ 48 ∷ 48 ∷ 48 ∷ 10 ∷ []
+
+pub worked-written : (answered 2005 3 stack workedSheet 382 ≡ Length 382) × (buffered 2005 3 stack workedSheet (replicate 382 0) ≡ worked)
+unfolding worked all put digitsOf digitOrBlank leading wholeWritten fixedWritten written leapYear daysInMonth daysInQuarter hoursInQuarter daysBefore monthOfDay dateOfHour over totalOf values stampNumber stampOf roundedValue roundedFigures totalsOf meanOf quarterOf quarterTotals hourAt hoursFrom hoursOf recordedHours every headingHolds kindsHold hoursRise sheetHolds inRange readingsHold figuresHold refusalOf headed valued facilityRecord hourRecord totalsRecord runOf runsOf report answered buffered
+worked-written = (refl, refl)
+
+pub empty-written : (answered 2005 3 stack [] 64 ≡ Length 64) × (buffered 2005 3 stack [] (replicate 64 0) ≡ empty)
+unfolding empty all put digitsOf digitOrBlank leading wholeWritten fixedWritten written leapYear daysInMonth daysInQuarter hoursInQuarter daysBefore monthOfDay dateOfHour over totalOf values stampNumber stampOf roundedValue roundedFigures totalsOf meanOf quarterOf quarterTotals hourAt hoursFrom hoursOf recordedHours every headingHolds kindsHold hoursRise sheetHolds inRange readingsHold figuresHold refusalOf headed valued facilityRecord hourRecord totalsRecord runOf runsOf report answered buffered
+empty-written = (refl, refl)

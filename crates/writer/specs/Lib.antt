@@ -1,0 +1,11 @@
+pub mod Sheet
+pub mod Refusals
+pub mod Writable
+pub mod SheetLaws
+pub mod RefusalLaws
+pub mod Written
+pub mod LineLaws
+pub mod ReadBackLaws
+pub mod FieldLaws
+pub mod ReportLaws
+pub mod Examples

@@ -1,0 +1,28 @@
+// The writer: a sheet of readings, six words to an operating hour, becomes a quarterly report in a lent buffer.
+mod lines;
+mod refusals;
+mod report;
+pub mod sheet;
+
+ghost use mathlib.Core.Path.{_≡_};
+ghost use lib.ListN.{length};
+ghost use Rattle.writer.specs.Written.{answered, buffered};
+
+// The length of the report written, or the number of the refusal (01's table).
+pub enum Written {
+    Length(usize),
+    Refused(u64),
+}
+
+// Writes the report of a sheet to the front of the buffer; a refusal changes no byte.
+pub fn write(year: u64, quarter: u64, name: [u8; 6], sheet: &[u32], buffer: &mut [u8]) -> Written
+    ensures { λ r. ⌜ (r ≡ answered year quarter name (now (sheet .entry)) (length (now (buffer .entry))))
+        × (now (buffer .exit) ≡ buffered year quarter name (now (sheet .entry)) (now (buffer .entry))) ⌝ }
+{
+    let refusal = refusals::refusal(year, quarter, &name, sheet, buffer.len());
+    if refusal != 0 {
+        return Written::Refused(refusal);
+    }
+    report::write_report(buffer, year, quarter, &name, sheet);
+    Written::Length(refusals::report_bytes(sheet.len() / 6))
+}

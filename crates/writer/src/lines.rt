@@ -1,0 +1,145 @@
+// The records of a report, each written into its own part of the lent buffer.
+use crate::sheet::SheetHour;
+use edr::hour::Hour;
+use edr::layout::RecordType;
+use edr::totals::Quarter;
+ghost use mathlib.Core.Path.{_≡_};
+ghost use Prim.Native.Nat.{_+_, _≤_, _<_};
+ghost use lib.ListN.{length, take, replicate};
+ghost use Rattle.calendar.specs.Calendar.{IsQuarter};
+ghost use Rattle.columns.specs.Columns.{put};
+ghost use Rattle.edr.specs.Layout.{lengthOf, dateColumn, valueCount, valuesOf};
+ghost use Rattle.edr.specs.Hour.{ReadingsWithin};
+ghost use Rattle.writer.specs.Sheet.{recordedHour};
+ghost use Rattle.writer.specs.Writable.{HourWritable};
+ghost use Rattle.writer.specs.Written.{headed, valued, ended, facilityRecord, hourValues, hourRecord, totalsRecord};
+
+fn fill_blank(line: &mut [u8])
+    ensures { λ _. ⌜ now (line .exit) ≡ replicate (length (now (line .entry))) 32 ⌝ }
+{
+    let mut i = 0;
+    while i < line.len() {
+        line[i] = 32;
+        i += 1;
+    }
+}
+
+// Type code and stack name in an otherwise blank record.
+fn write_heading(line: &mut [u8], t: RecordType, name: &[u8])
+    requires { ⌜ (length (now line) ≡ lengthOf t) × (length (now name) ≡ 6) ⌝ }
+    ensures { λ _. ⌜ now (line .exit) ≡ headed t (now (name .entry)) ⌝ }
+{
+    fill_blank(line);
+    columns::write_digits(line, 1, 3, edr::layout::type_code(t));
+    columns::write_bytes(line, 4, name);
+}
+
+// The first of these numbers, as many as the record has values, in its columns.
+fn write_values(line: &mut [u8], t: RecordType, values: [u64; 4])
+    requires { ⌜ length (now line) ≡ lengthOf t ⌝ }
+    ensures { λ _. ⌜ now (line .exit) ≡ valued (valuesOf t) (take (valueCount t) values) (now (line .entry)) ⌝ }
+{
+    let count = edr::layout::value_count(t);
+    let mut i = 0;
+    while i < count {
+        let v = edr::layout::value_at(t, i);
+        columns::write_number(line, v.start, v.width, v.decimals, values[i]);
+        i += 1;
+    }
+}
+
+fn facility_record(line: &mut [u8], year: u64, quarter: u64, name: &[u8])
+    requires { ⌜ (length (now line) ≡ lengthOf RecordType.Facility) × (length (now name) ≡ 6) ⌝ }
+    ensures { λ _. ⌜ now (line .exit) ≡ facilityRecord year quarter (now (name .entry)) ⌝ }
+{
+    write_heading(line, RecordType::Facility, name);
+    columns::write_digits(line, 10, 4, year);
+    columns::write_digits(line, 14, 1, quarter);
+}
+
+pub fn recorded_hour(h: SheetHour) -> Hour
+    requires { ⌜ ReadingsWithin (h .readings) ⌝ }
+    ensures { λ r. ⌜ r ≡ recordedHour h ⌝ }
+{
+    let readings = h.readings;
+    Hour {
+        time: h.time,
+        readings,
+        figures: edr::formulas::rounded_figures(readings),
+    }
+}
+
+// The values of an hour in the record of a type that has a date, and zeros behind them.
+fn hour_values(t: RecordType, h: Hour) -> [u64; 4]
+    requires { ⌜ 1 ≤ dateColumn t ⌝ }
+    ensures { λ r. ⌜ take (valueCount t) r ≡ hourValues t h ⌝ }
+{
+    match t {
+        RecordType::Facility => [0, 0, 0, 0],
+        RecordType::So2Concentration => [h.readings.so2, 0, 0, 0],
+        RecordType::NoxConcentration => [h.readings.nox, 0, 0, 0],
+        RecordType::Co2Concentration => [h.readings.co2, 0, 0, 0],
+        RecordType::VolumetricFlow => [h.readings.flow, 0, 0, 0],
+        RecordType::Operation => [h.time, h.figures.heat, 0, 0],
+        RecordType::QuarterTotals => [0, 0, 0, 0],
+        RecordType::So2Mass => [h.figures.so2, 0, 0, 0],
+        RecordType::NoxRate => [h.readings.fc, h.figures.nox, 0, 0],
+        RecordType::Co2Mass => [h.figures.co2, 0, 0, 0],
+    }
+}
+
+fn hour_record(line: &mut [u8], t: RecordType, year: u64, quarter: u64, name: &[u8], h: SheetHour)
+    requires { ⌜ (length (now line) ≡ lengthOf t) × (length (now name) ≡ 6) × (1 ≤ dateColumn t) × IsQuarter quarter × HourWritable year quarter h ⌝ }
+    ensures { λ _. ⌜ now (line .exit) ≡ hourRecord year quarter (now (name .entry)) t h ⌝ }
+{
+    write_heading(line, t, name);
+    edr::stamp::write_stamp(line, edr::layout::date_column(t), year, quarter, h.hour);
+    write_values(line, t, hour_values(t, recorded_hour(h)));
+}
+
+fn totals_record(line: &mut [u8], name: &[u8], q: Quarter)
+    requires { ⌜ (length (now line) ≡ lengthOf RecordType.QuarterTotals) × (length (now name) ≡ 6) ⌝ }
+    ensures { λ _. ⌜ now (line .exit) ≡ totalsRecord (now (name .entry)) q ⌝ }
+{
+    write_heading(line, RecordType::QuarterTotals, name);
+    write_values(
+        line,
+        RecordType::QuarterTotals,
+        [q.so2, q.co2, q.heat, q.nox],
+    );
+}
+
+pub fn write_facility(buffer: &mut [u8], year: u64, quarter: u64, name: &[u8])
+    requires { ⌜ (lengthOf RecordType.Facility < length (now buffer)) × (length (now name) ≡ 6) ⌝ }
+    ensures { λ _. ⌜ now (buffer .exit) ≡ put 1 (ended (facilityRecord year quarter (now (name .entry)))) (now (buffer .entry)) ⌝ }
+{
+    let end = edr::layout::line_length(RecordType::Facility);
+    facility_record(&mut buffer[0..end], year, quarter, name);
+    buffer[end] = 10;
+}
+
+pub fn write_hour(
+    buffer: &mut [u8],
+    at: usize,
+    t: RecordType,
+    year: u64,
+    quarter: u64,
+    name: &[u8],
+    h: SheetHour,
+)
+    requires { ⌜ (at + lengthOf t < length (now buffer)) × (length (now name) ≡ 6) × (1 ≤ dateColumn t) × IsQuarter quarter × HourWritable year quarter h ⌝ }
+    ensures { λ _. ⌜ now (buffer .exit) ≡ put (at + 1) (ended (hourRecord year quarter (now (name .entry)) t h)) (now (buffer .entry)) ⌝ }
+{
+    let end = at + edr::layout::line_length(t);
+    hour_record(&mut buffer[at..end], t, year, quarter, name, h);
+    buffer[end] = 10;
+}
+
+pub fn write_totals(buffer: &mut [u8], at: usize, name: &[u8], q: Quarter)
+    requires { ⌜ (at + lengthOf RecordType.QuarterTotals < length (now buffer)) × (length (now name) ≡ 6) ⌝ }
+    ensures { λ _. ⌜ now (buffer .exit) ≡ put (at + 1) (ended (totalsRecord (now (name .entry)) q)) (now (buffer .entry)) ⌝ }
+{
+    let end = at + edr::layout::line_length(RecordType::QuarterTotals);
+    totals_record(&mut buffer[at..end], name, q);
+    buffer[end] = 10;
+}
