@@ -4,13 +4,14 @@ use Prim.Native.Nat.{ℕ, zero, suc, _≤_, _<_}
 use mathlib.Core.Path.{_≡_, refl, sym, _∙_}
 use mathlib.Core.List.{List, [], _∷_}
 use native.Mathlib.Omega.{arith}
-use lib.ListN.{length, drop, set}
-use borrow.Author.Tests.{lt-ltb, le-ltb}
+use lib.ListN.{length, getD, drop, set}
+use borrow.Author.Tests.{lt-ltb, le-ltb, eq-eqb, ne-eqb}
 use Rattle.edr.specs.declared.totals.Quarter.{Quarter}
 use Rattle.reading.specs.declared.Refusal.{Refusal}
 use Rattle.checker.specs.Checked.{checked}
 use Rattle.checker.specs.declared.Answer.the-variants.{Accepted, Refused}
-use Rattle.edr_c.specs.Boundary.{filled, checkCode, checkFilled}
+use Rattle.writer.specs.Written.{answered, buffered}
+use Rattle.edr_c.specs.Boundary.{checkCode, checkFilled, writtenCode, writeCode, writeFilled}
 
 set-two : (l : List ℕ) (a b : ℕ) → 5 ≤ length l → set (set l 0 a) 1 b ≡ a ∷ b ∷ drop 2 l
 set-two [] a b h = absurd (omega arith)
@@ -39,3 +40,25 @@ module _ (file buffer : List ℕ) where
   pub refused : (r : Refusal) → checked file ≡ Refused r → 5 ≤ length buffer → (0 ≡ checkCode file buffer) × (set (set buffer 0 (r .number)) 1 (r .line) ≡ checkFilled file buffer)
   unfolding checkCode checkFilled
   refused r e h = (rw (le-ltb (length buffer) 5 h, checkCode, e), rw (le-ltb (length buffer) 5 h, checkFilled, e) (set-two buffer (r .number) (r .line) h))
+
+-- six bytes one by one are the name
+pub six : (l : List ℕ) → length l ≡ 6 → getD l 0 0 ∷ getD l 1 0 ∷ getD l 2 0 ∷ getD l 3 0 ∷ getD l 4 0 ∷ getD l 5 0 ∷ [] ≡ l
+six [] e = absurd (omega arith)
+six (a ∷ []) e = absurd (omega arith)
+six (a ∷ b ∷ []) e = absurd (omega arith)
+six (a ∷ b ∷ c ∷ []) e = absurd (omega arith)
+six (a ∷ b ∷ c ∷ d ∷ []) e = absurd (omega arith)
+six (a ∷ b ∷ c ∷ d ∷ x ∷ []) e = absurd (omega arith)
+six (a ∷ b ∷ c ∷ d ∷ x ∷ y ∷ []) e = refl
+six (a ∷ b ∷ c ∷ d ∷ x ∷ y ∷ z ∷ l) e = absurd (omega arith)
+
+module _ (year quarter : ℕ) (name sheet buffer : List ℕ) where
+  pub no-name : (length name ≡ 6 → ⊥) → (31 ≡ writeCode year quarter name sheet buffer) × (buffer ≡ writeFilled year quarter name sheet buffer)
+  unfolding writeCode writeFilled
+  no-name h = (rw (ne-eqb (length name) 6 h, writeCode), rw (ne-eqb (length name) 6 h, writeFilled))
+
+  -- what the writer answers and leaves for the six bytes is what it does for the name
+  pub named : (letters : List ℕ) (code : ℕ) (exit : List ℕ) → letters ≡ name → length name ≡ 6 → code ≡ writtenCode (answered year quarter letters sheet (length buffer)) → exit ≡ buffered year quarter letters sheet buffer →
+      (code ≡ writeCode year quarter name sheet buffer) × (exit ≡ writeFilled year quarter name sheet buffer)
+  unfolding writeCode writeFilled
+  named letters code exit l e c x = (rw (eq-eqb (length name) 6 e, writeCode, ← l) c, rw (eq-eqb (length name) 6 e, writeFilled, ← l) x)

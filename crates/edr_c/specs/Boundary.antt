@@ -3,11 +3,14 @@
 use Prim.Native.Nat.{ℕ}
 use mathlib.Core.List.{List, _++_}
 use mathlib.Core.Bool.{true, false}
-use lib.Dec.{ltb}
+use lib.Dec.{eqb, ltb}
 use lib.ListN.{length, drop}
 use Rattle.checker.specs.Checked.{numbersOf, checked}
 use Rattle.checker.specs.declared.Answer.{Answer}
 use Rattle.checker.specs.declared.Answer.the-variants.{Accepted, Refused}
+use Rattle.writer.specs.Written.{answered, buffered}
+use Rattle.writer.specs.declared.Written.{Written}
+use Rattle.writer.specs.declared.Written.the-variants.{Length, Refused as Unwritten}
 
 abbrev pub codeOf : Answer → ℕ
 codeOf (Accepted r) = 1
@@ -22,3 +25,14 @@ checkCode file buffer = elim (ltb (length buffer) 5) [ true ↦ 2 | false ↦ co
 
 unfoldable pub checkFilled : List ℕ → List ℕ → List ℕ
 checkFilled file buffer = elim (ltb (length buffer) 5) [ true ↦ buffer | false ↦ filled (checked file) buffer ]
+
+abbrev pub writtenCode : Written → ℕ
+writtenCode (Length n) = n
+writtenCode (Unwritten number) = number
+
+unfoldable pub writeCode : ℕ → ℕ → List ℕ → List ℕ → List ℕ → ℕ
+writeCode year quarter name sheet buffer =
+    elim (eqb (length name) 6) [ false ↦ 31 | true ↦ writtenCode (answered year quarter name sheet (length buffer)) ]
+
+unfoldable pub writeFilled : ℕ → ℕ → List ℕ → List ℕ → List ℕ → List ℕ
+writeFilled year quarter name sheet buffer = elim (eqb (length name) 6) [ false ↦ buffer | true ↦ buffered year quarter name sheet buffer ]

@@ -5,7 +5,5 @@ pub mod SheetLaws
 pub mod RefusalLaws
 pub mod Written
 pub mod LineLaws
-pub mod ReadBackLaws
-pub mod FieldLaws
 pub mod ReportLaws
 pub mod Examples

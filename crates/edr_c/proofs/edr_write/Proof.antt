@@ -1,0 +1,79 @@
+-- `edr_c::edr_write` meets its contract: six bytes are handed on as the name.
+-- Assumes nothing.
+use mathlib.Core.Path.{sym, ap, _∙_}
+use Rattle.edr_c.specs.Boundary.{writtenCode}
+use Rattle.edr_c.proofs.Filling.{six, no-name, named}
+use borrow.Author.Needs.{needs}
+use Rattle.edr_c.proofs.edr_write.Statement.{statement}
+use Rattle.edr_c.proofs.edr_write.Tie as tie
+
+returns : tie.Need-returns
+returns c = let a = c .before .before .before .before .args in no-name (a .year) (a .quarter) (a .name .now) (a .sheet .now) (a .buffer .now) (c .if1 .taken)
+
+shared-slice-read-t12 : tie.Need-shared-slice-read-t12
+shared-slice-read-t12 c = search needs
+
+shared-slice-read-t14 : tie.Need-shared-slice-read-t14
+shared-slice-read-t14 c = search needs
+
+shared-slice-read-t16 : tie.Need-shared-slice-read-t16
+shared-slice-read-t16 c = search needs
+
+shared-slice-read-t18 : tie.Need-shared-slice-read-t18
+shared-slice-read-t18 c = search needs
+
+shared-slice-read-t20 : tie.Need-shared-slice-read-t20
+shared-slice-read-t20 c = search needs
+
+shared-slice-read-t22 : tie.Need-shared-slice-read-t22
+shared-slice-read-t22 c = search needs
+
+write-requires : tie.Need-write-requires
+write-requires c κs = search needs
+
+enum-known-length : tie.Need-enum-known-length
+enum-known-length c = search needs
+
+enum-known-number : tie.Need-enum-known-number
+enum-known-number c = search needs
+
+same-length : tie.Need-same-length
+same-length c = search needs
+
+returns-2 : tie.Need-returns-2
+returns-2 c = 
+    let a = c .before .before .before .before .before .before .before .before .before .before .before .before .before .before .before .before .before .args in
+    let w = c .before .before .before .before .before .write in
+    let l = c .before .before .before .before .before .before .before .before .before .before .before .before .before .if1 .left in
+    named (a .year) (a .quarter) (a .name .now) (a .sheet .now) (a .buffer .now) _ _ _ (six (a .name .now) l) l
+    (ap writtenCode (sym (c .before .length .given .1) ∙ w .ensures .0)) (w .ensures .1)
+
+same-length-2 : tie.Need-same-length-2
+same-length-2 c = search needs
+
+returns-3 : tie.Need-returns-3
+returns-3 c = 
+    let a = c .before .before .before .before .before .before .before .before .before .before .before .before .before .before .before .before .before .args in
+    let w = c .before .before .before .before .before .write in
+    let l = c .before .before .before .before .before .before .before .before .before .before .before .before .before .if1 .left in
+    named (a .year) (a .quarter) (a .name .now) (a .sheet .now) (a .buffer .now) _ _ _ (six (a .name .now) l) l
+    (ap writtenCode (sym (c .before .number .given .1) ∙ w .ensures .0)) (w .ensures .1)
+
+pub edr-write-spec : {M : Type 1} → statement M
+edr-write-spec =
+    tie.close
+    (tie.spec
+    returns
+    shared-slice-read-t12
+    shared-slice-read-t14
+    shared-slice-read-t16
+    shared-slice-read-t18
+    shared-slice-read-t20
+    shared-slice-read-t22
+    write-requires
+    enum-known-length
+    enum-known-number
+    same-length
+    returns-2
+    same-length-2
+    returns-3)
