@@ -1,0 +1,3 @@
+-- Laws that the proofs of this crate's functions share, and worked examples.
+pub mod Lines
+pub mod Examples

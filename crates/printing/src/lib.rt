@@ -1,0 +1,72 @@
+// The line that the program prints for an answer.
+use checker::Answer;
+ghost use mathlib.Core.Path.{_≡_};
+ghost use Prim.Native.Nat.{_+_, _≤_};
+ghost use lib.ListN.{length};
+ghost use Rattle.columns.specs.Columns.{put};
+ghost use Rattle.printing.specs.Printed.{digitCount, spaced, lineOf, printed, longestLine};
+ghost use Rattle.printing.specs.Room.{NumberRoom, LineRoom};
+
+fn digit_count(value: u64) -> usize
+    ensures { λ r. ⌜ (r ≡ digitCount value) × (r ≤ 20) ⌝ }
+{
+    let mut count = 1;
+    let mut rest = value;
+    while 10 <= rest {
+        rest = rest / 10;
+        count += 1;
+    }
+    count
+}
+
+// A space and a number from a column on. Returns the column behind them.
+fn print_number(line: &mut [u8], column: usize, value: u64) -> usize
+    requires { ⌜ NumberRoom column (now line) ⌝ }
+    ensures { λ r. ⌜ (r ≡ column + length (spaced value)) × (r ≤ column + 21) × (now (line .exit) ≡ put column (spaced value) (now (line .entry))) ⌝ }
+{
+    let count = digit_count(value);
+    columns::write_bytes(line, column, b" ");
+    columns::write_digits(line, column + 1, count, value);
+    column + 1 + count
+}
+
+// A word and up to five numbers, from the first column on. Returns the length of the line.
+fn print_line(word: &[u8], numbers: &[u64], line: &mut [u8]) -> usize
+    requires { ⌜ LineRoom (now word) (now numbers) (now line) ⌝ }
+    ensures { λ r. ⌜ (r ≡ length (lineOf (now (word .entry)) (now (numbers .entry)))) × (r ≤ longestLine) × (now (line .exit) ≡ put 1 (lineOf (now (word .entry)) (now (numbers .entry))) (now (line .entry))) ⌝ }
+{
+    columns::write_bytes(line, 1, word);
+    let mut column = 1 + word.len();
+    let mut i = 0;
+    while i < numbers.len() {
+        column = print_number(line, column, numbers[i]);
+        i += 1;
+    }
+    columns::write_bytes(line, column, b"\n");
+    column
+}
+
+// Returns the length of the line.
+pub fn print_answer(answer: Answer, line: &mut [u8]) -> usize
+    requires { ⌜ longestLine ≤ length (now line) ⌝ }
+    ensures { λ r. ⌜ (r ≡ length (printed answer)) × (r ≤ longestLine) × (now (line .exit) ≡ put 1 (printed answer) (now (line .entry))) ⌝ }
+{
+    match answer {
+        Answer::Accepted(quarter) => print_line(
+            b"accepted",
+            &[
+                quarter.hours,
+                quarter.so2,
+                quarter.co2,
+                quarter.heat,
+                quarter.nox,
+            ],
+            line,
+        ),
+        Answer::Refused(refusal) => print_line(
+            b"refused",
+            &[refusal.number, refusal.line as u64],
+            line,
+        ),
+    }
+}
