@@ -6,7 +6,8 @@ use mathlib.Core.List.{List, [], _∷_}
 use mathlib.Core.Bool.{Bool, true, false, not, _&&_}
 use native.Mathlib.Omega.{arith}
 use lib.Dec.{eqb, leb}
-use lib.ListN.{length}
+use lib.ListN.{length, take, drop}
+use lib.Seq.{take-at}
 use borrow.Author.Tests.{leb-true}
 use Rattle.columns.specs.Bytes.{isBlank, isPrintable, all}
 use Rattle.calendar.specs.Calendar.{IsQuarter, hoursInQuarter}
@@ -14,12 +15,14 @@ use Rattle.calendar.specs.CalendarLaws.{hours-in-quarter}
 use Rattle.edr.specs.Formulas.{roundedFigures}
 use Rattle.edr.specs.Totals.{totalsOf, quarterOf, quarterTotals}
 use Rattle.edr.specs.declared.totals.Quarter.{Quarter}
-use Rattle.checker.specs.Checked.{checked}
+use Rattle.checker.specs.Checked.{acceptance, numbersOf, checked}
 use Rattle.checker.specs.declared.Answer.the-variants.{Accepted}
 use Rattle.writer.specs.Sheet.{hourCount, hoursFrom, hoursOf, recordedHours}
 use Rattle.writer.specs.Refusals.{every, headingHolds, kindsHold, hoursRise, sheetHolds, readingsHold, figuresHold, figuresFit, reportBytes, refusalOf}
 use Rattle.writer.specs.SheetLaws.{both, every-head, every-tail, rise-head, rise-tail, rise-count, hours-length, readings-within, figures-within}
-use Rattle.writer.specs.Written.{report}
+use Rattle.writer.specs.Written.{report, answered, buffered}
+use Rattle.writer.specs.ReportLaws.{report-length}
+use Rattle.writer.specs.declared.Written.the-variants.{Length, Refused}
 use Rattle.agreement.specs.HourRecordLaws.{Head}
 use Rattle.agreement.specs.WalkLaws.{AllRight, HourRight}
 use Rattle.agreement.specs.TotalsFitLaws.{recorded-length}
@@ -92,6 +95,10 @@ module _ (year quarter : ℕ) (name sheet : List ℕ) where
         all-right hs (suc (h .hour)) (rise-tail (hoursInQuarter year quarter) from h hs r) (every-tail readingsHold h hs a) (every-tail figuresFit h hs f),
       )
 
+  hours-count : length (hoursOf sheet) ≡ hourCount sheet
+  unfolding hoursOf
+  hours-count = hours-length sheet 0 (hourCount sheet)
+
   -- the totals that the report states
   abbrev pub formed : Quarter
   formed = quarterTotals (recordedHours (hoursOf sheet))
@@ -107,3 +114,20 @@ module _ (year quarter : ℕ) (name sheet : List ℕ) where
       let g = heading-head six (h .heading) in
       let c = rise-count (hoursInQuarter year quarter) 0 (hoursOf sheet) (h .rising) in
       report-accepted year quarter name g (hoursOf sheet) (all-right (hoursOf sheet) 0 (h .rising) (t .ranges) (t .figures)) (h .rising) (omega (arith, c, hours-in-quarter year quarter (g .valid) .most))
+
+  -- Whatever the buffer: where the writer answers a length, the check accepts that many bytes of it, with the sheet's hours.
+  pub every-written : (buffer : List ℕ) (n : ℕ) → length name ≡ 6 → answered year quarter name sheet (length buffer) ≡ Length n →
+      (numbersOf (checked (take n (buffered year quarter name sheet buffer))) ≡ acceptance formed) × (formed .hours ≡ length sheet / 6)
+  unfolding answered buffered
+  every-written buffer n six e = go (refusalOf year quarter name sheet (length buffer)) refl e
+    where
+      go : (f : ℕ) → refusalOf year quarter name sheet (length buffer) ≡ f →
+          elim f [ zero ↦ Length (reportBytes (hourCount sheet)) | suc c ↦ Refused (suc c) ] ≡ Length n →
+          (numbersOf (checked (take n (buffered year quarter name sheet buffer))) ≡ acceptance formed) × (formed .hours ≡ length sheet / 6)
+      go zero z w =
+          let l : reportBytes (hourCount sheet) ≡ n = cc in
+          let file = report year quarter name (hoursOf sheet) in
+          let k : length file ≡ n = report-length year quarter name six (hoursOf sheet) ∙ ap reportBytes hours-count ∙ l in
+          let t : take n (buffered year quarter name sheet buffer) ≡ file = rw (z, buffered) (take-at file (drop (reportBytes (hourCount sheet)) buffer) n k) in
+          (ap numbersOf (ap checked t ∙ sheet-accepted (length buffer) six z), formed-hours)
+      go (suc f) z w = absurd (let y : _≡_ {A = ℕ} 0 1 = cc in omega arith)

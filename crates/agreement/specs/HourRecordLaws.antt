@@ -96,8 +96,17 @@ module _ (year quarter : ℕ) (name : List ℕ) (g : Head year quarter name) whe
   pub facility-right : facilityFault (facilityRecord year quarter name) ≡ 0
   unfolding facilityFault numberWithin
   facility-right =
-      rw (heading-shape Facility name (g .six) (g .shown) (facilityRecord year quarter name) facility-heading, facility-stack, g .named, year-field, quarter-field, le-leb 1995 year (g .least), le-leb year 2094 (g .most),
-      le-leb 1 quarter (g .valid .least), le-leb quarter 4 (g .valid .most))
+      rw (
+        heading-shape Facility name (g .six) (g .shown) (facilityRecord year quarter name) facility-heading,
+        facility-stack,
+        g .named,
+        year-field,
+        quarter-field,
+        le-leb 1995 year (g .least),
+        le-leb year 2094 (g .most),
+        le-leb 1 quarter (g .valid .least),
+        le-leb quarter 4 (g .valid .most),
+      )
 
   module _ (t : RecordType) (d : Dated t) (h : SheetHour) where
     unfoldable pub stamped : List ℕ
@@ -133,9 +142,12 @@ module _ (year quarter : ℕ) (name : List ℕ) (g : Head year quarter name) whe
     pub due-right : AllWithin (valuesOf t) (hourValues t (recordedHour h)) → dueFault (facilityRecord year quarter name) (dueOf t (stampOf year quarter (h .hour))) (hourRecord year quarter name t h) ≡ 0
     unfolding dueFault
     due-right a =
-        rw (heading-shape t name (g .six) (g .shown) (hourRecord year quarter name t h) hour-heading,
-        heading-stack t name (g .six) (g .shown) (facilityRecord year quarter name) (hourRecord year quarter name t h) facility-stack hour-heading,
-        date-right, hour-values a)
+        rw (
+          heading-shape t name (g .six) (g .shown) (hourRecord year quarter name t h) hour-heading,
+          heading-stack t name (g .six) (g .shown) (facilityRecord year quarter name) (hourRecord year quarter name t h) facility-stack hour-heading,
+          date-right,
+          hour-values a,
+        )
 
   -- the 200 line of an hour that may follow
   module _ (h : SheetHour) (d : Dated So2Concentration) (b : h .hour < hoursInQuarter year quarter) where
@@ -147,9 +159,13 @@ module _ (year quarter : ℕ) (name : List ℕ) (g : Head year quarter name) whe
         hourFault (facilityRecord year quarter name) from (hourRecord year quarter name So2Concentration h) ≡ 0
     unfolding hourFault risingFault
     hour-right from f a =
-        rw (heading-shape So2Concentration name (g .six) (g .shown) (hourRecord year quarter name So2Concentration h) (hour-heading So2Concentration d h),
-        heading-stack So2Concentration name (g .six) (g .shown) (facilityRecord year quarter name) (hourRecord year quarter name So2Concentration h) facility-stack (hour-heading So2Concentration d h),
-        hour-named, le-leb from (h .hour) f, hour-values So2Concentration d h a)
+        rw (
+          heading-shape So2Concentration name (g .six) (g .shown) (hourRecord year quarter name So2Concentration h) (hour-heading So2Concentration d h),
+          heading-stack So2Concentration name (g .six) (g .shown) (facilityRecord year quarter name) (hourRecord year quarter name So2Concentration h) facility-stack (hour-heading So2Concentration d h),
+          hour-named,
+          le-leb from (h .hour) f,
+          hour-values So2Concentration d h a,
+        )
 
   pub totals-heading : (q : Quarter) → Heading QuarterTotals name (totalsRecord name q)
   unfolding totalsRecord
@@ -158,6 +174,8 @@ module _ (year quarter : ℕ) (name : List ℕ) (g : Head year quarter name) whe
   pub totals-right : (q : Quarter) → AllWithin (valuesOf QuarterTotals) (totalValues q) → dueFault (facilityRecord year quarter name) (dueOf QuarterTotals []) (totalsRecord name q) ≡ 0
   unfolding dueFault dateFault totalsRecord
   totals-right q a =
-      rw (heading-shape QuarterTotals name (g .six) (g .shown) (totalsRecord name q) (totals-heading q),
-      heading-stack QuarterTotals name (g .six) (g .shown) (facilityRecord year quarter name) (totalsRecord name q) facility-stack (totals-heading q))
+      rw (
+        heading-shape QuarterTotals name (g .six) (g .shown) (totalsRecord name q) (totals-heading q),
+        heading-stack QuarterTotals name (g .six) (g .shown) (facilityRecord year quarter name) (totalsRecord name q) facility-stack (totals-heading q),
+      )
       (valued-right QuarterTotals (totalValues q) (headed QuarterTotals name) (heading-headed QuarterTotals name (g .six) (g .shown) .long) a)

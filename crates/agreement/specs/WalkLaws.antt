@@ -152,9 +152,10 @@ module _ (year quarter : ℕ) (name : List ℕ) (g : Head year quarter name) whe
       run-matches NoxConcentration nox-dated hs _ _ a
       (run-matches Co2Concentration co2-dated hs _ _ a
       (run-matches VolumetricFlow flow-dated hs _ _ a
-      (run-matches Operation operation-dated hs _ _ a
-      (totals-right year quarter name g q t,
-      run-matches So2Mass so2-mass-dated hs _ _ a (run-matches NoxRate nox-rate-dated hs _ _ a (run-matches Co2Mass co2-mass-dated hs [] [] a tt))))))
+      (run-matches Operation operation-dated hs _ _ a (
+        totals-right year quarter name g q t,
+        run-matches So2Mass so2-mass-dated hs _ _ a (run-matches NoxRate nox-rate-dated hs _ _ a (run-matches Co2Mass co2-mass-dated hs [] [] a tt)),
+      ))))
 
   -- the first later line is not a 200 line
   abbrev pub Other : List (List ℕ) → Type 0
@@ -184,7 +185,12 @@ module _ (year quarter : ℕ) (name : List ℕ) (g : Head year quarter name) whe
       let l = hourRecord year quarter name So2Concentration h in
       let e : line + 1 + length hs ≡ line + suc (length hs) = omega arith in
       let d : dates ++ (dateOn l ∷ []) ++ stamps hs ≡ dates ++ (stampOf year quarter (h .hour) ∷ stamps hs) = append-assoc dates (dateOn l ∷ []) (stamps hs) ∙ ap (λ (x : List ℕ). dates ++ (x ∷ stamps hs)) (hour-date year quarter name g So2Concentration so2-dated h) in
-      rw (heading-type So2Concentration name (g .six) (g .shown) l (hour-heading year quarter name g So2Concentration so2-dated h), walkHours,
-      hour-right year quarter name g h so2-dated (b .1) from (b .0) (dated-values year quarter So2Concentration h so2-dated (a .0)), hour-named year quarter name g h so2-dated (b .1), add-one (h .hour))
+      rw (
+        heading-type So2Concentration name (g .six) (g .shown) l (hour-heading year quarter name g So2Concentration so2-dated h),
+        walkHours,
+        hour-right year quarter name g h so2-dated (b .1) from (b .0) (dated-values year quarter So2Concentration h so2-dated (a .0)),
+        hour-named year quarter name g h so2-dated (b .1),
+        add-one (h .hour),
+      )
       (walk-run hs (line + 1) (suc (h .hour)) (dates ++ (dateOn l ∷ [])) later (a .1) (rise-tail (hoursInQuarter year quarter) from h hs r) o
       ∙ ap₂ (λ (n : ℕ) (x : List (List ℕ)). walkLater facility n x later) e d)

@@ -20,10 +20,16 @@ use Rattle.reading.specs.declared.Reading.the-variants.{Clean, Refused as Stopp
 use Rattle.checker.specs.declared.Answer.{Answer}
 use Rattle.checker.specs.declared.Answer.the-variants.{Accepted, Refused}
 
--- what an answer says, as 01 has it: n and the totals, or number and line
+-- what an answer says, as 01 has it: n and the totals (three in tenths, the mean in thousandths), or number and line
+abbrev pub acceptance : Quarter → List ℕ
+acceptance r = r .hours ∷ r .so2 ∷ r .co2 ∷ r .heat ∷ r .nox ∷ []
+
+abbrev pub refusal : ℕ → ℕ → List ℕ
+refusal number line = number ∷ line ∷ []
+
 abbrev pub numbersOf : Answer → List ℕ
-numbersOf (Accepted q) = q .hours ∷ q .so2 ∷ q .co2 ∷ q .heat ∷ q .nox ∷ []
-numbersOf (Refused r) = r .number ∷ r .line ∷ []
+numbersOf (Accepted r) = acceptance r
+numbersOf (Refused r) = refusal (r .number) (r .line)
 
 abbrev pub refusedAt : ℕ → ℕ → Answer
 refusedAt number line = Refused (record { number = number; line = line })
@@ -86,7 +92,7 @@ judged file n =
 
 unfoldable pub afterReading : List ℕ → Reading → Answer
 afterReading file (Clean report) = judged file (report .hours)
-afterReading file (Stopped refusal) = Refused refusal
+afterReading file (Stopped r) = Refused r
 
 unfoldable pub checked : List ℕ → Answer
 checked file = afterReading file (readOf file)

@@ -21,9 +21,8 @@ use Rattle.reading.specs.Reading.{readOf}
 use Rattle.reading.specs.Recorded.{hourLines, hourAt, hoursOf, totalsIn}
 use Rattle.reading.specs.declared.Reading.the-variants.{Clean}
 use Rattle.reading.specs.declared.Report.{Report}
-use Rattle.checker.specs.Checked.{refusedAt, numberFor, typeFor}
+use Rattle.checker.specs.Checked.{acceptance, refusal, numbersOf, numberFor, typeFor}
 use Rattle.checker.specs.declared.Answer.{Answer}
-use Rattle.checker.specs.declared.Answer.the-variants.{Accepted}
 
 -- a list lies behind a quantity's hourly figures: one entry for each hour, in order, each behind its hour's figure
 abbrev pub LieBehind : (q : Quantity) → List Hour → List (Entry q) → Type 0
@@ -94,10 +93,10 @@ pub record FailsAt (file : List ℕ) (q : Quantity) (line : ℕ) : Type 0 where
   pub nothing : (e : Entry q) → LiesBehind q (hourAt file (report .hours) hour) e → ⊥
 
 pub record Promise (file : List ℕ) (answer : Answer) : Type 0 where
-  pub honest : (sets : List Unrounded) → HonestlyRounded file sets → (r : Quarter) × (answer ≡ Accepted r)
-  pub behind : (r : Quarter) → answer ≡ Accepted r → (q : Quantity) → (es : List (Entry q)) × LieBehind q (hoursIn file r) es
-  pub bounds : (r : Quarter) → answer ≡ Accepted r → (q : Quantity) (es : List (Entry q)) → LieBehind q (hoursIn file r) es →
+  pub honest : (sets : List Unrounded) → HonestlyRounded file sets → (r : Quarter) × (numbersOf answer ≡ acceptance r)
+  pub behind : (r : Quarter) → numbersOf answer ≡ acceptance r → (q : Quantity) → (es : List (Entry q)) × LieBehind q (hoursIn file r) es
+  pub bounds : (r : Quarter) → numbersOf answer ≡ acceptance r → (q : Quantity) (es : List (Entry q)) → LieBehind q (hoursIn file r) es →
       Near (exactAmount q (hoursIn file r) es) (reported q r) (allowed q (r .hours))
-  pub rightly : (q : Quantity) (line : ℕ) → answer ≡ refusedAt (numberFor q) line → FailsAt file q line
-  pub count : (r : Quarter) → answer ≡ Accepted r → r .hours ≡ hourLines (lines file)
-  pub totals : (r : Quarter) → answer ≡ Accepted r → r ≡ totalsIn file (r .hours)
+  pub rightly : (q : Quantity) (line : ℕ) → numbersOf answer ≡ refusal (numberFor q) line → FailsAt file q line
+  pub count : (r : Quarter) → numbersOf answer ≡ acceptance r → r .hours ≡ hourLines (lines file)
+  pub totals : (r : Quarter) → numbersOf answer ≡ acceptance r → r ≡ totalsIn file (r .hours)

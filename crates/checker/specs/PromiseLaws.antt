@@ -6,7 +6,7 @@ use mathlib.Core.List.{List, [], _∷_}
 use mathlib.Core.Bool.{true, false}
 use mathlib.Core.Logic.{_⊎_, ⊎-elim}
 use native.Mathlib.Omega.{arith}
-use lib.ListN.{length}
+use lib.ListN.{length, getD}
 use Rattle.exact.specs.Fraction.{Near}
 use Rattle.edr.specs.Layout.{lineOf}
 use Rattle.edr.specs.Hour.{HourWithin, Unrounded, Entry, entryOf}
@@ -27,7 +27,7 @@ use Rattle.reading.specs.declared.Report.{Report}
 use Rattle.reading.specs.declared.Refusal.{Refusal}
 use Rattle.reading.specs.declared.Reading.{Reading}
 use Rattle.reading.specs.declared.Reading.the-variants.{Clean, Refused as Stopped}
-use Rattle.checker.specs.Checked.{refusedAt, numberFor, comparedTotals, judgedHours, judged, afterReading, checked}
+use Rattle.checker.specs.Checked.{acceptance, refusal, numbersOf, refusedAt, numberFor, comparedTotals, judgedHours, judged, afterReading, checked}
 use Rattle.checker.specs.Promise.{LieBehind, SetsBehind, HonestlyRounded, hoursIn, exactAmount, reported, allowed, FailsAt, Promise}
 use Rattle.checker.specs.JudgedLaws.{never-accepted, Passes, AllPass, hours-accepted, hours-pass, Failing, hours-refused, Agree, totals-accepted, totals-agree, totals-refused, number-high}
 use Rattle.checker.specs.BoundLaws.{AllWithin, amount-bound}
@@ -98,7 +98,7 @@ accepted-facts file r e = go (readOf file) refl e
           formed = t .0;
           agree = t .1;
         }
-    go (Stopped refusal) c w = never-accepted (refusal .number) (refusal .line) r w
+    go (Stopped x) c w = never-accepted (x .number) (x .line) r w
 
 -- an honest file is accepted with the totals formed
 pub honest-checked : (file : List ℕ) (sets : List Unrounded) (h : HonestlyRounded file sets) → checked file ≡ Accepted (quarterTotals (hoursOf file (h .report .hours)))
@@ -119,7 +119,7 @@ unfolding checked afterReading judged hoursOf
 refused-rightly file q line e = go (readOf file) refl e
   where
     go : (x : Reading) → readOf file ≡ x → afterReading file x ≡ refusedAt (numberFor q) line → FailsAt file q line
-    go (Stopped refusal) c w = absurd (number-high q (refusal .number) (refusal .line) line w (refused-number file refusal c))
+    go (Stopped x) c w = absurd (number-high q (x .number) (x .line) line w (refused-number file x c))
     go (Clean report) c w =
         let n = report .hours in
         ⊎-elim
@@ -161,12 +161,27 @@ module _ (file : List ℕ) (r : Quarter) (e : checked file ≡ Accepted r) where
       let a : Agree r (totalsIn file (r .hours)) = rw (← f .hours, s) at (f .agree) in
       same-quarter r (totalsIn file (r .hours)) refl a
 
+-- the numbers that an answer says determine it
+accepts : (answer : Answer) (r : Quarter) → numbersOf answer ≡ acceptance r → answer ≡ Accepted r
+accepts (Accepted q) r e =
+    let at : (k : ℕ) → getD (acceptance q) k 0 ≡ getD (acceptance r) k 0 = λ k. ap (λ (l : List ℕ). getD l k 0) e in
+    λ i. Accepted (record { hours = at 0 i; so2 = at 1 i; co2 = at 2 i; heat = at 3 i; nox = at 4 i })
+accepts (Refused x) r e = absurd (let l = ap length e in omega arith)
+
+refuses : (answer : Answer) (number line : ℕ) → numbersOf answer ≡ refusal number line → answer ≡ refusedAt number line
+refuses (Accepted q) number line e = absurd (let l = ap length e in omega arith)
+refuses (Refused x) number line e =
+    let at : (k : ℕ) → getD (refusal (x .number) (x .line)) k 0 ≡ getD (refusal number line) k 0 = λ k. ap (λ (l : List ℕ). getD l k 0) e in
+    λ i. Refused (record { number = at 0 i; line = at 1 i })
+
 pub promise : (file : List ℕ) → Promise file (checked file)
-promise file = record {
-  honest = λ sets h. (quarterTotals (hoursOf file (h .report .hours)), honest-checked file sets h);
-  behind = accepted-behind file;
-  bounds = accepted-bounds file;
-  rightly = refused-rightly file;
-  count = accepted-count file;
-  totals = accepted-totals file;
-}
+promise file =
+    let yes : (r : Quarter) → numbersOf (checked file) ≡ acceptance r → checked file ≡ Accepted r = accepts (checked file) in
+    record {
+      honest = λ sets h. (quarterTotals (hoursOf file (h .report .hours)), ap numbersOf (honest-checked file sets h));
+      behind = λ r e. accepted-behind file r (yes r e);
+      bounds = λ r e. accepted-bounds file r (yes r e);
+      rightly = λ q line e. refused-rightly file q line (refuses (checked file) (numberFor q) line e);
+      count = λ r e. accepted-count file r (yes r e);
+      totals = λ r e. accepted-totals file r (yes r e);
+    }

@@ -32,7 +32,13 @@ pub extern "C" fn edr_check(file: &[u8], answer: &mut [u64]) -> u64
 
 // The length of the report written, which is 64 or more, or the number of the refusal. A name of another length than six is 31.
 #[no_mangle]
-pub extern "C" fn edr_write(year: u64, quarter: u64, name: &[u8], sheet: &[u32], buffer: &mut [u8]) -> u64
+pub extern "C" fn edr_write(
+    year: u64,
+    quarter: u64,
+    name: &[u8],
+    sheet: &[u32],
+    buffer: &mut [u8],
+) -> u64
     ensures { λ r. ⌜ (r ≡ writeCode year quarter (now (name .entry)) (now (sheet .entry)) (now (buffer .entry)))
         × (now (buffer .exit) ≡ writeFilled year quarter (now (name .entry)) (now (sheet .entry)) (now (buffer .entry))) ⌝ }
 {
