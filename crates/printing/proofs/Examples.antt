@@ -1,8 +1,7 @@
 -- Worked examples: the lines of 01's worked hour, of an empty quarter and of a refusal, and decimal numbers at either side of a digit more.
 -- Assumes nothing.
-use Prim.Native.Nat.{ℕ}
 use mathlib.Core.Path.{_≡_, refl}
-use mathlib.Core.List.{List, [], _∷_, map}
+use mathlib.Core.List.{[], _∷_, map}
 use Rattle.columns.specs.Written.{digitsOf}
 use Rattle.checker.specs.Checked.{refusedAt}
 use Rattle.checker.specs.declared.Answer.the-variants.{Accepted}

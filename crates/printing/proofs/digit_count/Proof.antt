@@ -1,6 +1,6 @@
 -- Digits are counted from the right: those counted and those of what is left are those of the whole, with the last one counted twice.
-use Prim.Native.Nat.{ℕ, suc, _+_, _-_, _/_, _≤_}
-use mathlib.Core.Path.{_≡_, ap, _∙_}
+use Prim.Native.Nat.{suc, _+_, _-_, _≤_}
+use mathlib.Core.Path.{_≡_}
 use native.Mathlib.Omega.{arith}
 use Rattle.printing.specs.Printed.{digitCountIn, digitCount}
 use Rattle.printing.specs.PrintedLaws.{count-one, count-more, count-most}

@@ -6,7 +6,6 @@ use native.Mathlib.Omega.{arith}
 use borrow.Author.Needs.{needs}
 use lib.ListN.{length, getD}
 use Rattle.columns.specs.Columns.{put}
-use Rattle.columns.specs.ColumnsLaws.{put-length}
 use Rattle.printing.specs.Printed.{spaced}
 use Rattle.printing.proofs.Lines.{leftFrom, left-none, left-length, left-put, line-length, line-put}
 use Rattle.printing.proofs.print_line.Statement.{statement}
