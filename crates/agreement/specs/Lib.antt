@@ -5,3 +5,4 @@ pub mod PlaceLaws
 pub mod TotalsFitLaws
 pub mod AcceptedLaws
 pub mod Agreement
+pub mod Examples

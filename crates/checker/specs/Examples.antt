@@ -22,7 +22,7 @@ use Rattle.reading.specs.Recorded.{valueIn, hourAt, hoursFrom, hoursOf, totalsI
 use Rattle.checker.specs.Checked.{numbersOf, judgedFigures, judgedHours, comparedTotals, judged, afterReading, checked}
 
 -- one hour at 2005 quarter 3, hour 0, time 0.50, SO2 250.0, NOx 200.0, CO2 12.0, flow 20,000,000, Fc 1,800.0
-pub workedHour : List ℕ
+unfoldable pub workedHour : List ℕ
 workedHour =
     -- 100STACK120053
     (49 ∷ 48 ∷ 48 ∷ 83 ∷ 84 ∷ 65 ∷ 67 ∷ 75 ∷ 49 ∷ 50 ∷ 48 ∷ 48 ∷ 53 ∷ 51 ∷ 10 ∷ []) ++
@@ -46,7 +46,7 @@ workedHour =
     (51 ∷ 51 ∷ 48 ∷ 83 ∷ 84 ∷ 65 ∷ 67 ∷ 75 ∷ 49 ∷ 48 ∷ 53 ∷ 48 ∷ 55 ∷ 48 ∷ 49 ∷ 48 ∷ 48 ∷ 32 ∷ 32 ∷ 49 ∷ 51 ∷ 54 ∷ 46 ∷ 56 ∷ 10 ∷ [])
 
 -- no operating hour, and zero totals
-pub emptyQuarter : List ℕ
+unfoldable pub emptyQuarter : List ℕ
 emptyQuarter =
     -- 100STACK120053
     (49 ∷ 48 ∷ 48 ∷ 83 ∷ 84 ∷ 65 ∷ 67 ∷ 75 ∷ 49 ∷ 50 ∷ 48 ∷ 48 ∷ 53 ∷ 51 ∷ 10 ∷ []) ++
