@@ -31,7 +31,7 @@ fn print_number(line: &mut [u8], column: usize, value: u64) -> usize
 }
 
 // A word and up to five numbers, from the first column on. Returns the length of the line.
-fn print_line(word: &[u8], numbers: &[u64], line: &mut [u8]) -> usize
+pub fn print_line(word: &[u8], numbers: &[u64], line: &mut [u8]) -> usize
     requires { ⌜ LineRoom (now word) (now numbers) (now line) ⌝ }
     ensures { λ r. ⌜ (r ≡ length (lineOf (now (word .entry)) (now (numbers .entry)))) × (r ≤ longestLine) × (now (line .exit) ≡ put 1 (lineOf (now (word .entry)) (now (numbers .entry))) (now (line .entry))) ⌝ }
 {

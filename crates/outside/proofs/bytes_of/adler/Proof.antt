@@ -1,0 +1,76 @@
+-- The sum of what is left, from the sums of what is passed, is the sum of the whole.
+use Prim.Native.Nat.{_-_, _≤_, _<_}
+use mathlib.Core.Path.{_≡_, refl, sym, _∙_}
+use native.Mathlib.Omega.{arith}
+use lib.ListN.{length, drop}
+use Rattle.outside.specs.Numbers.{adlerOf}
+use Rattle.outside.proofs.Laws.{adler-more, adler-end}
+use borrow.Author.Needs.{needs}
+use Rattle.outside.proofs.bytes_of.adler.Statement.{statement}
+use Rattle.outside.proofs.bytes_of.adler.Tie as tie
+
+abbrev Inv-loop : tie.InvT-loop
+Inv-loop bytes a₀ b₀ i₀ a b i = (i ≤ length bytes) × (a < 65521) × (b < 65521) × (adlerOf a b (drop i bytes) ≡ adlerOf 1 0 bytes)
+
+abbrev μ-loop : tie.MeasureT-loop
+μ-loop bytes a₀ b₀ i₀ a b i = length bytes - i
+
+loop-holds : tie.Need-loop-holds Inv-loop μ-loop
+loop-holds c = (omega arith, omega arith, omega arith, refl)
+
+shared-slice-read-wide : tie.Need-shared-slice-read-wide Inv-loop μ-loop
+shared-slice-read-wide c = search needs
+
+wide-requires : tie.Need-wide-requires Inv-loop μ-loop
+wide-requires c κs = search needs
+
+add-a : tie.Need-add-a Inv-loop μ-loop
+add-a c = search needs
+
+add-b : tie.Need-add-b Inv-loop μ-loop
+add-b c = search needs
+
+add-i : tie.Need-add-i Inv-loop μ-loop
+add-i c = search needs
+
+loop-less : tie.Need-loop-less Inv-loop μ-loop
+loop-less c = search needs
+
+loop-again : tie.Need-loop-again Inv-loop μ-loop
+loop-again c =
+    let x = c .before .before .before .before .before .args in
+    let l = c .before .before .before .loop in (
+      omega arith,
+      omega arith,
+      omega arith,
+      rw (c .wide .ensures .0) (adler-more (x .bytes .now) (l .i) (l .a) (l .b) (omega arith) ∙ l .inv .3),
+    )
+
+mul-result : tie.Need-mul-result Inv-loop μ-loop
+mul-result c = search needs
+
+add-result : tie.Need-add-result Inv-loop μ-loop
+add-result c = search needs
+
+returns : tie.Need-returns Inv-loop μ-loop
+returns c =
+    let l = c .before .loop in
+    sym (adler-end (c .before .before .before .args .bytes .now) (l .i) (l .a) (l .b) (omega arith)) ∙ l .inv .3
+
+pub adler-spec : {M : Type 1} → statement M
+adler-spec =
+    tie.close
+    (tie.spec
+    Inv-loop
+    μ-loop
+    loop-holds
+    shared-slice-read-wide
+    wide-requires
+    add-a
+    add-b
+    add-i
+    loop-less
+    loop-again
+    mul-result
+    add-result
+    returns)

@@ -1,0 +1,69 @@
+// Numbers in bytes: one of four bytes, words one behind the other, a filled buffer and the sum of a buffer.
+ghost use mathlib.Core.Path.{_≡_};
+ghost use Prim.Native.Nat.{_+_, _*_, _<_, _≤_};
+ghost use lib.ListN.{length, getD, replicate};
+ghost use Rattle.outside.specs.Numbers.{numberAt, wordsOf, adlerOf};
+
+// The byte at a place, 0 beyond the end.
+pub fn byte_at(bytes: &[u8], at: usize) -> u8
+    ensures { λ r. ⌜ r ≡ getD (now (bytes .entry)) at 0 ⌝ }
+{
+    if at < bytes.len() {
+        return bytes[at];
+    }
+    0
+}
+
+fn wide(byte: u8) -> usize
+    ensures { λ r. ⌜ (r ≡ byte) × (r < 256) ⌝ }
+{
+    byte as usize
+}
+
+// The number of four bytes, the lowest first.
+pub fn number_at(bytes: &[u8], at: usize) -> usize
+    requires { ⌜ at + 3 < 18446744073709551616 ⌝ }
+    ensures { λ r. ⌜ (r ≡ numberAt (now (bytes .entry)) at) × (r < 4294967296) ⌝ }
+{
+    let low = wide(byte_at(bytes, at)) + 256 * wide(byte_at(bytes, at + 1));
+    let high = wide(byte_at(bytes, at + 2)) + 256 * wide(byte_at(bytes, at + 3));
+    low + 65536 * high
+}
+
+// Fills a sheet with the numbers that the bytes hold.
+pub fn read_words(bytes: &[u8], sheet: &mut [u32])
+    requires { ⌜ 4 * length (now sheet) ≤ length (now bytes) ⌝ }
+    ensures { λ r. ⌜ now (sheet .exit) ≡ wordsOf (length (now (sheet .entry))) (now (bytes .entry)) ⌝ }
+{
+    let mut i = 0;
+    while i < sheet.len() {
+        sheet[i] = number_at(bytes, 4 * i) as u32;
+        i += 1;
+    }
+}
+
+// Every byte becomes one that no report has.
+pub fn fill(buffer: &mut [u8])
+    ensures { λ r. ⌜ now (buffer .exit) ≡ replicate (length (now (buffer .entry))) 165 ⌝ }
+{
+    let mut i = 0;
+    while i < buffer.len() {
+        buffer[i] = 0xA5;
+        i += 1;
+    }
+}
+
+// Adler-32.
+pub fn adler(bytes: &[u8]) -> u64
+    ensures { λ r. ⌜ r ≡ adlerOf 1 0 (now (bytes .entry)) ⌝ }
+{
+    let mut a = 1;
+    let mut b = 0;
+    let mut i = 0;
+    while i < bytes.len() {
+        a = (a + wide(bytes[i])) % 65521;
+        b = (b + a) % 65521;
+        i += 1;
+    }
+    (b * 65536 + a) as u64
+}
