@@ -1,6 +1,6 @@
 -- The formulas' tests and rounded values as the code computes them: reduced by a common factor.
 -- Assumes nothing.
-use mathlib.Core.Path.{_≡_}
+use mathlib.Core.Path.{_≡_, ap, ap₂, _∙_}
 use mathlib.Core.Bool.{Bool}
 use Prim.Native.Nat.{ℕ, _+_, _*_, _-_, _<_}
 use native.Mathlib.Omega.{arith}
@@ -10,7 +10,7 @@ use Rattle.exact.specs.FractionLaws.{quotient}
 use Rattle.exact.specs.Rounding.{recorded, lowEnd, highEnd, nearest}
 use Rattle.exact.specs.RoundingLaws.{nearest-reduced}
 use Rattle.exact.specs.Behind.{meets}
-use Rattle.exact.specs.MeetsLaws.{same-meets}
+use Rattle.exact.specs.MeetsLaws.{same-meets, meets-at}
 use Rattle.edr.specs.Hour.{tenth, flowUnit, ReadingsWithin}
 use Rattle.edr.specs.Formulas.{passesTest, roundedValue, noxFactor}
 use Rattle.edr.specs.declared.hour.Readings.{Readings}
@@ -20,6 +20,15 @@ use Rattle.edr.specs.declared.hour.Quantity.the-variants.{Heat, So2, Nox
 -- c·x·y over the spans of the readings k and f, against m times the figure v
 abbrev pub productTest : (c k f m v : ℕ) → Bool
 productTest c k f m v = meets (c * (lowEnd k * lowEnd f)) (c * (highEnd k * highEnd f)) (lowEnd v * m) (highEnd v * m)
+
+-- the ends of k's span
+abbrev pub Ends : (from below k : ℕ) → Type 0
+Ends from below k = (from ≡ lowEnd k) × (below ≡ highEnd k)
+
+pub product-test : (c k f m v : ℕ) {xf xb yf yb vf vb : ℕ} {r : Bool} → Ends xf xb k → Ends yf yb f → Ends vf vb v →
+    r ≡ meets (c * (xf * yf)) (c * (xb * yb)) (vf * m) (vb * m) → r ≡ productTest c k f m v
+product-test c k f m v x y w e =
+    e ∙ meets-at (ap (_*_ c) (ap₂ _*_ (x .0) (y .0))) (ap (_*_ c) (ap₂ _*_ (x .1) (y .1))) (ap (λ e. e * m) (w .0)) (ap (λ e. e * m) (w .1))
 
 pub heat-test : (h : Hour) → productTest 1 (h .readings .co2) (h .readings .flow) (20 * h .readings .fc) (h .figures .heat) ≡ passesTest Heat h
 unfolding passesTest
@@ -36,6 +45,16 @@ co2-test h = same-meets (omega arith)
 abbrev pub ratioTest : (fc k d v : ℕ) → Bool
 ratioTest fc k d v =
     meets (lowEnd k * (597 * fc)) (highEnd k * (597 * fc)) (lowEnd v * (lowEnd d * 250_000)) (highEnd v * (highEnd d * 250_000))
+
+pub ratio-test : (fc k d v : ℕ) {xf xb zf zb vf vb l h f b : ℕ} → Ends xf xb k → Ends zf zb d → Ends vf vb v →
+    l ≡ xf * (597 * fc) → h ≡ xb * (597 * fc) → f ≡ vf * (zf * 250_000) → b ≡ vb * (zb * 250_000) →
+    meets l h f b ≡ ratioTest fc k d v
+ratio-test fc k d v x z w l h f b =
+    meets-at
+    (l ∙ ap (λ e. e * (597 * fc)) (x .0))
+    (h ∙ ap (λ e. e * (597 * fc)) (x .1))
+    (f ∙ ap₂ _*_ (w .0) (ap (λ e. e * 250_000) (z .0)))
+    (b ∙ ap₂ _*_ (w .1) (ap (λ e. e * 250_000) (z .1)))
 
 pub nox-test : (h : Hour) → ratioTest (h .readings .fc) (h .readings .nox) (h .readings .co2) (h .figures .nox) ≡ passesTest Nox h
 unfolding passesTest

@@ -1,6 +1,6 @@
 -- The running totals as the code grows and rounds them.
 -- Assumes nothing.
-use mathlib.Core.Path.{_≡_, refl, ap}
+use mathlib.Core.Path.{_≡_, refl, ap, _∙_}
 use mathlib.Core.List.{List, [], _∷_}
 use Prim.Native.Nat.{ℕ, zero, suc, _+_, _*_, _≤_, _<_}
 use native.Mathlib.Nat.{mul-le-mul, mul-le-mul-right}
@@ -13,9 +13,10 @@ use Rattle.exact.specs.Rounding.{recorded, nearest, halfUp}
 use Rattle.exact.specs.RoundingLaws.{nearest-reduced}
 use Rattle.exact.specs.Sums.{hundredths}
 use Rattle.edr.specs.Hour.{tenth, thousandth}
-use Rattle.edr.specs.Totals.{shareOf, ShareRoom, added, withHour, Room, meanOf}
+use Rattle.edr.specs.Totals.{shareOf, ShareRoom, added, withHour, Room, meanOf, quarterOf}
 use Rattle.edr.specs.declared.hour.Figures.{Figures}
 use Rattle.edr.specs.declared.totals.Totals.{Totals}
+use Rattle.edr.specs.declared.totals.Quarter.{Quarter}
 
 -- four sums, added place by place to an hour's share
 abbrev pub fourSums : List ℕ → List ℕ → List ℕ
@@ -44,6 +45,10 @@ grown-room t share r s h = record { four = refl; hours = omega arith; each = eac
     each (suc (suc zero)) = omega (arith, r .each 2, s .each 2)
     each (suc (suc (suc zero))) = omega (arith, r .each 3, s .each 3)
     each (suc (suc (suc (suc i)))) = omega arith
+
+pub four-at : {a b c d a′ b′ c′ d′ : ℕ} → a ≡ a′ → b ≡ b′ → c ≡ c′ → d ≡ d′ →
+    _≡_ {A = List ℕ} (a ∷ b ∷ c ∷ d ∷ []) (a′ ∷ b′ ∷ c′ ∷ d′ ∷ [])
+four-at e f g h = rw (e, f, g, h)
 
 -- four shares that are small are small at every place
 pub share-room : (a b c d : ℕ) → a ≤ 99_999_900 → b ≤ 99_999_900 → c ≤ 99_999_900 → d ≤ 99_999_900 → ShareRoom (a ∷ b ∷ c ∷ d ∷ [])
@@ -77,3 +82,12 @@ tons sum = nearest-reduced 10 _ _ _ _ (lit< tt) (omega arith) (omega arith)
 pub amounts : (sum : ℕ) → nearest sum 100 ≡ halfUp tenth (hundredths tenth sum ÷ whole 1)
 unfolding over
 amounts sum = nearest-reduced 10 _ _ _ _ (lit< tt) (omega arith) (omega arith)
+
+pub quarter-at : (t : Totals) {so2 co2 heat nox : ℕ} →
+    so2 ≡ nearest (getD (t .sums) 0 0) 200_000 →
+    co2 ≡ nearest (getD (t .sums) 1 0) 100 →
+    heat ≡ nearest (getD (t .sums) 2 0) 100 →
+    nox ≡ meanOf (getD (t .sums) 3 0) (t .hours) →
+    _≡_ {A = Quarter} (record { hours = t .hours; so2 = so2; co2 = co2; heat = heat; nox = nox }) (quarterOf t)
+unfolding quarterOf
+quarter-at t s c h n = rw (s ∙ tons (getD (t .sums) 0 0), c ∙ amounts (getD (t .sums) 1 0), h ∙ amounts (getD (t .sums) 2 0), n)

@@ -21,24 +21,24 @@ pub struct Quarter {
     pub nox: u64,
 }
 
-// A rate times a part of an hour.
-fn amount(rate: u64, time: u64) -> u64
-    requires { ⌜ (rate ≤ 999999) × (time ≤ 100) ⌝ }
-    ensures { λ r. ⌜ (r ≡ rate * time) × (r ≤ 99999900) ⌝ }
+// A rate times its weight in the sum.
+fn weighted(rate: u64, weight: u64) -> u64
+    requires { ⌜ (rate ≤ 999999) × (weight ≤ 100) ⌝ }
+    ensures { λ r. ⌜ (r ≡ rate * weight) × (r ≤ 99999900) ⌝ }
 {
-    rate * time
+    rate * weight
 }
 
-// One hour's share of the sums.
+// One hour's share of the sums: amounts are rates over the operating time, the NOx rate is added as it is.
 pub fn share_of(figures: Figures, time: u64) -> [u64; 4]
     requires { ⌜ FiguresWithin figures × (time ≤ 100) ⌝ }
     ensures { λ r. ⌜ (r ≡ shareOf figures time) × ShareRoom r ⌝ }
 {
     [
-        amount(figures.so2, time),
-        amount(figures.co2, time),
-        amount(figures.heat, time),
-        figures.nox,
+        weighted(figures.so2, time),
+        weighted(figures.co2, time),
+        weighted(figures.heat, time),
+        weighted(figures.nox, 1),
     ]
 }
 

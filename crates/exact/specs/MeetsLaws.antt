@@ -34,3 +34,6 @@ same-test a b c d e = go (decLt a b)
 pub same-meets : {a b c d a′ b′ c′ d′ : ℕ} → ((a < d) ↔ (a′ < d′)) × ((c < b) ↔ (c′ < b′)) → meets a b c d ≡ meets a′ b′ c′ d′
 unfolding meets
 same-meets {a} {b} {c} {d} {a′} {b′} {c′} {d′} e = ap₂ _&&_ (same-test a d a′ d′ (e .0)) (same-test c b c′ b′ (e .1))
+
+pub meets-at : {a b c d a′ b′ c′ d′ : ℕ} → a ≡ a′ → b ≡ b′ → c ≡ c′ → d ≡ d′ → meets a b c d ≡ meets a′ b′ c′ d′
+meets-at e f g h = rw (e, f, g, h)

@@ -1,6 +1,8 @@
 -- `edr::formulas::heat_passes` meets its contract: what the code compares is the test of the definition, reduced.
 -- Assumes nothing.
-use Rattle.edr.proofs.Numbers.{heat-test}
+use mathlib.Core.Path.{_∙_}
+use Prim.Native.Nat.{_*_}
+use Rattle.edr.proofs.Numbers.{product-test, heat-test}
 use borrow.Author.Needs.{needs}
 use Rattle.edr.proofs.formulas.heat_passes.Statement.{statement}
 use Rattle.edr.proofs.formulas.heat_passes.Tie as tie
@@ -21,7 +23,10 @@ product-meets-requires : tie.Need-product-meets-requires
 product-meets-requires c κs = search needs
 
 returns : tie.Need-returns
-returns c = cc (heat-test (c .before .before .before .before .before .args .h))
+returns c =
+    let h = c .before .before .before .before .before .args .h in
+    product-test 1 (h .readings .co2) (h .readings .flow) (20 * h .readings .fc) (h .figures .heat) (c .before .before .before .before .ends-of .ensures) (c .before .before .before .ends-of2 .ensures) (c .before .ends-of3 .ensures) (c .product-meets .ensures)
+    ∙ heat-test h
 
 pub heat-passes-spec : {M : Type 1} → statement M
 heat-passes-spec =

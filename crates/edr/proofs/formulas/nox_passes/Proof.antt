@@ -1,6 +1,7 @@
 -- `edr::formulas::nox_passes` meets its contract: what the code compares is the test of the definition, reduced.
 -- Assumes nothing.
-use Rattle.edr.proofs.Numbers.{nox-test}
+use mathlib.Core.Path.{_∙_}
+use Rattle.edr.proofs.Numbers.{ratio-test, nox-test}
 use borrow.Author.Needs.{needs}
 use Rattle.edr.proofs.formulas.nox_passes.Statement.{statement}
 use Rattle.edr.proofs.formulas.nox_passes.Tie as tie
@@ -42,7 +43,23 @@ ranges-meet-requires : tie.Need-ranges-meet-requires
 ranges-meet-requires c κs = search needs
 
 returns : tie.Need-returns
-returns c = cc (nox-test (c .before .before .before .before .before .before .before .before .before .before .before .before .args .h))
+returns c =
+    let e = c .before .before .before .before .before .before .before .before .before in
+    let h = e .before .before .before .args .h in
+    c .ranges-meet .ensures
+    ∙ ratio-test
+    (h .readings .fc)
+    (h .readings .nox)
+    (h .readings .co2)
+    (h .figures .nox)
+    (e .before .before .ends-of .ensures)
+    (e .before .ends-of2 .ensures)
+    (e .ends-of3 .ensures)
+    (c .before .before .before .before .before .before .before .times .ensures .0)
+    (c .before .before .before .before .before .times2 .ensures .0)
+    (c .before .before .before .times3 .ensures .0)
+    (c .before .times4 .ensures .0)
+    ∙ nox-test h
 
 pub nox-passes-spec : {M : Type 1} → statement M
 nox-passes-spec =

@@ -1,5 +1,8 @@
 -- `edr::formulas::product_meets` meets its contract: the products fit, and the test is that of the products.
 -- Assumes nothing.
+use mathlib.Core.Path.{ap, _∙_}
+use Rattle.exact.specs.MeetsLaws.{meets-at}
+use Prim.Native.Nat.{_*_}
 use native.Mathlib.Nat.{mul-le-mul}
 use native.Mathlib.Omega.{arith}
 use borrow.Author.Needs.{needs}
@@ -28,7 +31,10 @@ ranges-meet-requires : tie.Need-ranges-meet-requires
 ranges-meet-requires c κs = search needs
 
 returns : tie.Need-returns
-returns c = cc
+returns c =
+    let t = c .before .before .before .before in
+    c .ranges-meet .ensures
+    ∙ meets-at (ap (_*_ (t .before .args .c)) (t .times .ensures .0)) (ap (_*_ (t .before .args .c)) (c .before .before .before .times2 .ensures .0)) (c .before .before .times3 .ensures .0) (c .before .times4 .ensures .0)
 
 pub product-meets-spec : {M : Type 1} → statement M
 product-meets-spec =

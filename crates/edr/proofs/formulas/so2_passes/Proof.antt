@@ -1,6 +1,7 @@
 -- `edr::formulas::so2_passes` meets its contract: what the code compares is the test of the definition, reduced.
 -- Assumes nothing.
-use Rattle.edr.proofs.Numbers.{so2-test}
+use mathlib.Core.Path.{_∙_}
+use Rattle.edr.proofs.Numbers.{product-test, so2-test}
 use borrow.Author.Needs.{needs}
 use Rattle.edr.proofs.formulas.so2_passes.Statement.{statement}
 use Rattle.edr.proofs.formulas.so2_passes.Tie as tie
@@ -18,7 +19,10 @@ product-meets-requires : tie.Need-product-meets-requires
 product-meets-requires c κs = search needs
 
 returns : tie.Need-returns
-returns c = cc (so2-test (c .before .before .before .before .args .h))
+returns c =
+    let h = c .before .before .before .before .args .h in
+    product-test 166 (h .readings .so2) (h .readings .flow) 2_000_000_000 (h .figures .so2) (c .before .before .before .ends-of .ensures) (c .before .before .ends-of2 .ensures) (c .before .ends-of3 .ensures) (c .product-meets .ensures)
+    ∙ so2-test h
 
 pub so2-passes-spec : {M : Type 1} → statement M
 so2-passes-spec =

@@ -1,8 +1,12 @@
 -- The stack name of a line, compared with that of the facility line.
 -- Assumes nothing.
-use mathlib.Core.Path.{sym, _∙_}
+use mathlib.Core.Path.{_≡_, sym, _∙_}
+use mathlib.Core.Bool.{Bool}
+use mathlib.Core.List.{List}
+use Prim.Native.Nat.{ℕ}
+use Rattle.columns.specs.Bytes.{same}
 use Rattle.columns.specs.Columns.{columns}
-use Rattle.reading.specs.LineFaults.{stackFault}
+use Rattle.reading.specs.LineFaults.{unless, stackFault}
 use borrow.Author.Needs.{needs}
 use Rattle.reading.proofs.faults.stack_fault.Statement.{statement}
 use Rattle.reading.proofs.faults.stack_fault.Tie as tie
@@ -28,13 +32,21 @@ part-same-bytes-end-2 c = search needs
 same-bytes-requires : tie.Need-same-bytes-requires
 same-bytes-requires c κs = search needs
 
+stack-told : (facility line : List ℕ) {b : Bool} → b ≡ same (columns 4 6 line) (columns 4 6 facility) → stackFault facility line ≡ unless b 5
+unfolding stackFault
+stack-told facility line e = rw e
+
 returns : tie.Need-returns
-unfolding stackFault columns
-returns c = rw (sym (c .before .same-bytes .ensures) ∙ c .if1 .taken)
+unfolding columns
+returns c =
+    let x = c .before .before .before .before .before .before .args in
+    sym (stack-told (x .facility .now) (x .line .now) (c .before .same-bytes .ensures) ∙ rw (c .if1 .taken))
 
 returns-2 : tie.Need-returns-2
-unfolding stackFault columns
-returns-2 c = rw (sym (c .before .same-bytes .ensures) ∙ c .if1 .left)
+unfolding columns
+returns-2 c =
+    let x = c .before .before .before .before .before .before .args in
+    sym (stack-told (x .facility .now) (x .line .now) (c .before .same-bytes .ensures) ∙ rw (c .if1 .left))
 
 pub stack-fault-spec : {M : Type 1} → statement M
 stack-fault-spec =

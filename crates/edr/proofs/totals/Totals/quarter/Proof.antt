@@ -1,9 +1,7 @@
 -- `edr::totals::Totals::quarter` meets its contract: each total is a fraction of its definition, reduced.
 -- Assumes nothing.
 use native.Mathlib.Omega.{arith}
-use lib.ListN.{getD}
-use Rattle.edr.specs.Totals.{quarterOf}
-use Rattle.edr.proofs.Sums.{sum-bound, tons, amounts}
+use Rattle.edr.proofs.Sums.{sum-bound, quarter-at}
 use borrow.Author.Needs.{needs}
 use Rattle.edr.proofs.totals.Totals.quarter.Statement.{statement}
 use Rattle.edr.proofs.totals.Totals.quarter.Tie as tie
@@ -33,10 +31,13 @@ mean-requires : tie.Need-mean-requires
 mean-requires c κs = (sum-bound (c .before .before .before .before .args .self) 3 (c .before .before .before .before .pre), c .before .before .before .before .pre .hours)
 
 returns : tie.Need-returns
-unfolding quarterOf
 returns c =
-    let t = c .before .before .before .before .before .args .self in
-    cc (tons (getD (t .sums) 0 0), amounts (getD (t .sums) 1 0), amounts (getD (t .sums) 2 0))
+    quarter-at
+    (c .before .before .before .before .before .args .self)
+    (c .before .before .before .half-up .ensures)
+    (c .before .before .half-up2 .ensures)
+    (c .before .half-up3 .ensures)
+    (c .mean .ensures)
 
 pub quarter-spec : {M : Type 1} → statement M
 quarter-spec =
