@@ -115,3 +115,33 @@ module _ (start : ℕ) (bs l : List ℕ) (fits : start - 1 + length bs ≤ lengt
 -- bytes of a known width are read back from where they were put
 pub columns-back : (start width : ℕ) (bs l : List ℕ) → length bs ≡ width → start - 1 + width ≤ length l → columns start width (put start bs l) ≡ bs
 columns-back start width bs l e h = ap (λ (n : ℕ). columns start n (put start bs l)) (sym e) ∙ columns-put start bs l (rw e h)
+
+-- bytes that are put into the front of a list leave what follows
+put-front : (start : ℕ) (bs l rest : List ℕ) → start - 1 + length bs ≤ length l → put start bs (l ++ rest) ≡ put start bs l ++ rest
+unfolding put
+put-front start bs l rest h =
+    let p : start - 1 ≤ length l = omega arith in
+    rw (take-append-le (start - 1) l rest p, drop-append-le (start - 1 + length bs) l rest h) (simp append-assoc)
+
+put-next : (start : ℕ) (bs l rest : List ℕ) → length l ≡ start - 1 → put start bs (l ++ rest) ≡ l ++ (bs ++ drop (length bs) rest)
+unfolding put
+put-next start bs l rest e =
+    let d : drop (start - 1 + length bs) (l ++ rest) ≡ drop (length bs) rest =
+    ap (λ (n : ℕ). drop (n + length bs) (l ++ rest)) (sym e) ∙ drop-append-add l rest (length bs) in
+    rw (take-at l rest (start - 1) e, d)
+
+-- bytes that lie wholly in front of others may be put before or after them
+pub put-swap : (start start′ : ℕ) (bs cs l : List ℕ) → start - 1 + length bs ≤ start′ - 1 → start′ - 1 ≤ length l →
+    put start bs (put start′ cs l) ≡ put start′ cs (put start bs l)
+put-swap start start′ bs cs l h m =
+    let a = take (start′ - 1) l in
+    let b = drop (start′ - 1) l in
+    let n : length a ≡ start′ - 1 = length-take-le (start′ - 1) l m in
+    let f : start - 1 + length bs ≤ length a = omega arith in
+    let whole : l ≡ a ++ b = sym (take-append-drop (start′ - 1) l) in
+    ap (λ (x : List ℕ). put start bs (put start′ cs x)) whole
+    ∙ ap (put start bs) (put-next start′ cs a b n)
+    ∙ put-front start bs a (cs ++ drop (length cs) b) f
+    ∙ sym (put-next start′ cs (put start bs a) b (put-length start bs a f ∙ n))
+    ∙ ap (put start′ cs) (sym (put-front start bs a b f))
+    ∙ ap (λ (x : List ℕ). put start′ cs (put start bs x)) (sym whole)

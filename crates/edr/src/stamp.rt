@@ -6,8 +6,8 @@ ghost use mathlib.Core.Path.{_≡_};
 ghost use Prim.Native.Nat.{_<_};
 ghost use Rattle.calendar.specs.Calendar.{IsQuarter, hoursInQuarter};
 ghost use Rattle.calendar.specs.CalendarLaws.{TwoDigits};
-ghost use Rattle.columns.specs.Columns.{Inside, columns, put};
-ghost use Rattle.edr.specs.Stamp.{numberHour, stampHour, dateNumber, stampOf};
+ghost use Rattle.columns.specs.Columns.{Inside, columns};
+ghost use Rattle.edr.specs.Stamp.{numberHour, stampHour, dateNumber, stampNumber};
 
 // The hour of the quarter that a number of eight digits names.
 fn hour_named(year: u64, quarter: u64, number: u64) -> QuarterHour
@@ -50,12 +50,10 @@ fn number_of(year: u64, date: Date) -> u64
     1000000 * (year % 100) + 10000 * date.month + 100 * date.day + date.hour
 }
 
-// Puts the date of an hour of the quarter into a line's columns.
-pub fn write_stamp(line: &mut [u8], start: usize, year: u64, quarter: u64, hour: u64)
-    requires { ⌜ Inside start 8 (now line) ⌝ }
+// The number that the eight digits of an hour of the quarter are.
+pub fn stamp_number(year: u64, quarter: u64, hour: u64) -> u64
     requires { ⌜ IsQuarter quarter × (hour < hoursInQuarter year quarter) ⌝ }
-    ensures { λ _. ⌜ now (line .exit) ≡ put start (stampOf year quarter hour) (now (line .entry)) ⌝ }
+    ensures { λ r. ⌜ r ≡ stampNumber year quarter hour ⌝ }
 {
-    let number = number_of(year, calendar::date_of_hour(year, quarter, hour));
-    columns::write_digits(line, start, 8, number);
+    number_of(year, calendar::date_of_hour(year, quarter, hour))
 }

@@ -1,4 +1,5 @@
 pub mod Tests
 pub mod Filling
 pub mod Runs
+pub mod HourLines
 pub mod Answer

@@ -7,7 +7,7 @@ use native.Mathlib.Omega.{arith}
 use native.Mathlib.Nat.{add-zero}
 use lib.ListN.{length, take-append-drop}
 use Rattle.columns.specs.Columns.{put}
-use Rattle.columns.specs.ColumnsLaws.{put-length, put-beside}
+use Rattle.columns.specs.ColumnsLaws.{put-length, put-beside, put-swap}
 use Rattle.edr.specs.Layout.{lengthOf, dateColumn, offsetOf}
 use Rattle.edr.specs.Totals.{withHour, runningTotals, quarterTotals}
 use Rattle.edr.specs.declared.totals.Quarter.{Quarter}
@@ -57,9 +57,6 @@ abbrev pub runLeft : ℕ → ℕ → List ℕ → List ℕ → RecordType → �
 runLeft year quarter name sheet t n k buffer = put (offsetOf n t k + 1) (runOf year quarter name t (hoursFrom sheet k (n - k))) buffer
 
 module _ (year quarter : ℕ) (name sheet : List ℕ) (t : RecordType) where
-  pub run-start : (buffer : List ℕ) → runLeft year quarter name sheet t (hourCount sheet) 0 buffer ≡ put (offsetOf (hourCount sheet) t 0 + 1) (runOf year quarter name t (hoursOf sheet)) buffer
-  run-start buffer = rw hours-whole
-
   pub run-more : (n k : ℕ) (buffer : List ℕ) → length name ≡ 6 → 1 ≤ dateColumn t → k < n → reportBytes n ≤ length buffer
       → runLeft year quarter name sheet t n (k + 1) (put (offsetOf n t k + 1) (ended (hourRecord year quarter name t (hourAt sheet k))) buffer) ≡ runLeft year quarter name sheet t n k buffer
   unfolding runOf
@@ -79,9 +76,10 @@ module _ (sheet : List ℕ) (n k : ℕ) (totals : Totals) where
   abbrev pub totalsLeft : Totals
   totalsLeft = runningTotals totals (recordedHours (hoursFrom sheet k (n - k)))
 
-  pub totals-more : k < n → runningTotals (withHour totals (recordedHour (hourAt sheet k) .figures) (recordedHour (hourAt sheet k) .time)) (recordedHours (hoursFrom sheet (k + 1) (n - (k + 1)))) ≡ totalsLeft
+  pub totals-more : (grown : Totals) → k < n → grown ≡ withHour totals (recordedHour (hourAt sheet k) .figures) (recordedHour (hourAt sheet k) .time)
+      → runningTotals grown (recordedHours (hoursFrom sheet (k + 1) (n - (k + 1)))) ≡ totalsLeft
   unfolding runningTotals recordedHours
-  totals-more h = rw (hours-next sheet n k h)
+  totals-more grown h e = rw (hours-next sheet n k h, e)
 
   pub totals-end : n ≤ k → totalsLeft ≡ totals
   unfolding runningTotals recordedHours
@@ -136,10 +134,10 @@ module _ (year quarter : ℕ) (name : List ℕ) (six : length name ≡ 6) (n : �
         ∙ run-front NoxConcentration Co2Concentration (VolumetricFlow ∷ Operation ∷ []) b₁ (omega arith) (omega arith)
         ∙ run-front So2Concentration NoxConcentration (Co2Concentration ∷ VolumetricFlow ∷ Operation ∷ []) buffer (omega arith) (omega arith)
 
-    -- line 100, the first runs, line 301 and the last runs
+    -- line 100, the first runs, the last runs, and line 301 between them
     pub report-parts : (q : Quarter) → q ≡ quarterTotals (recordedHours hs)
-        → put (offsetOf n So2Mass 0 + 1) (runsOf year quarter name lastTypes hs)
-        (put (offsetOf n QuarterTotals 0 + 1) (ended (totalsRecord name q))
+        → put (offsetOf n QuarterTotals 0 + 1) (ended (totalsRecord name q))
+        (put (offsetOf n So2Mass 0 + 1) (runsOf year quarter name lastTypes hs)
         (put (offsetOf n So2Concentration 0 + 1) (runsOf year quarter name firstTypes hs)
         (put 1 (ended (facilityRecord year quarter name)) buffer)))
         ≡ put 1 (report year quarter name hs) buffer
@@ -148,11 +146,14 @@ module _ (year quarter : ℕ) (name : List ℕ) (six : length name ≡ 6) (n : �
         let f = facility-line-length year quarter name six in
         let r = first-length year quarter name six hs in
         let t = totals-line-length year quarter name six (quarterTotals (recordedHours hs)) in
+        let totals = ended (totalsRecord name (quarterTotals (recordedHours hs))) in
+        let last = runsOf year quarter name lastTypes hs in
         let b₁ = put 1 (ended (facilityRecord year quarter name)) buffer in
         let b₂ = put (offsetOf n So2Concentration 0 + 1) (runsOf year quarter name firstTypes hs) b₁ in
         let k₁ : length b₁ ≡ length buffer = put-length 1 (ended (facilityRecord year quarter name)) buffer (omega arith) in
         let k₂ : length b₂ ≡ length buffer = put-length (offsetOf n So2Concentration 0 + 1) (runsOf year quarter name firstTypes hs) b₁ (omega arith) ∙ k₁ in
         rw e
-        (put-on (offsetOf n QuarterTotals 0) (offsetOf n So2Mass 0) (ended (totalsRecord name (quarterTotals (recordedHours hs)))) (runsOf year quarter name lastTypes hs) b₂ (omega arith) (omega arith)
+        (put-swap (offsetOf n QuarterTotals 0 + 1) (offsetOf n So2Mass 0 + 1) totals last b₂ (omega arith) (omega arith)
+        ∙ put-on (offsetOf n QuarterTotals 0) (offsetOf n So2Mass 0) totals last b₂ (omega arith) (omega arith)
         ∙ put-on (offsetOf n So2Concentration 0) (offsetOf n QuarterTotals 0) (runsOf year quarter name firstTypes hs) _ b₁ (omega arith) (omega arith)
         ∙ put-on 0 (offsetOf n So2Concentration 0) (ended (facilityRecord year quarter name)) _ buffer (omega arith) (omega arith))

@@ -4,6 +4,7 @@ pub mod Writable
 pub mod SheetLaws
 pub mod RefusalLaws
 pub mod Written
+pub mod HourLines
 pub mod LineLaws
 pub mod ReportLaws
 pub mod Examples

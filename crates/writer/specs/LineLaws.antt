@@ -18,10 +18,11 @@ use Rattle.edr.specs.Stamp.{stampNumber, stampOf}
 use Rattle.edr.specs.StampLaws.{stamp-length}
 use Rattle.edr.specs.declared.totals.Quarter.{Quarter}
 use Rattle.edr.specs.declared.layout.Value.{Value}
+use Rattle.edr.specs.declared.hour.Hour.{Hour}
 use Rattle.edr.specs.declared.layout.RecordType.{RecordType}
 use Rattle.edr.specs.declared.layout.RecordType.the-variants.{Facility, So2Concentration, NoxConcentration, Co2Concentration, VolumetricFlow, Operation, QuarterTotals, So2Mass, NoxRate, Co2Mass}
 use Rattle.writer.specs.Sheet.{recordedHour}
-use Rattle.writer.specs.Written.{headed, valued, facilityRecord, hourValues, hourRecord, totalValues, totalsRecord}
+use Rattle.writer.specs.Written.{headed, valued, facilityRecord, hourValues, datedRecord, hourRecord, totalValues, totalsRecord}
 use Rattle.writer.specs.declared.sheet.SheetHour.{SheetHour}
 
 -- every record has room for type code, stack name, year and quarter, and for its date and hour
@@ -97,11 +98,13 @@ module _ (name : List ℕ) (six : length name ≡ 6) where
       put-long 14 14 (digitsOf 1 quarter) _ 1 (digits-length 1 quarter) (omega arith)
       (put-long 14 10 (digitsOf 4 year) _ 4 (digits-length 4 year) (omega arith) (headed-length Facility name six))
 
+  pub dated-length : (t : RecordType) (date : List ℕ) (h : Hour) → length date ≡ 8 → length (datedRecord name t date h) ≡ lengthOf t
+  dated-length t date h e =
+      valued-length t (valuesOf t) (hourValues t h) _ (values-inside t) (put-long (lengthOf t) (dateColumn t) date _ 8 e (date-room t) (headed-length t name six))
+
   pub hour-length : (year quarter : ℕ) (t : RecordType) (h : SheetHour) → length (hourRecord year quarter name t h) ≡ lengthOf t
   unfolding hourRecord
-  hour-length year quarter t h =
-      valued-length t (valuesOf t) (hourValues t (recordedHour h)) _ (values-inside t)
-      (put-long (lengthOf t) (dateColumn t) (stampOf year quarter (h .hour)) _ 8 (stamp-length year quarter (h .hour)) (date-room t) (headed-length t name six))
+  hour-length year quarter t h = dated-length t (stampOf year quarter (h .hour)) (recordedHour h) (stamp-length year quarter (h .hour))
 
   pub totals-length : (q : Quarter) → length (totalsRecord name q) ≡ lengthOf QuarterTotals
   unfolding totalsRecord

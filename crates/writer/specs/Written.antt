@@ -49,9 +49,12 @@ hourValues So2Mass h = h .figures .so2 ∷ []
 hourValues NoxRate h = h .readings .fc ∷ h .figures .nox ∷ []
 hourValues Co2Mass h = h .figures .co2 ∷ []
 
+-- a record of an hour with these eight columns of date and hour
+abbrev pub datedRecord : List ℕ → RecordType → List ℕ → Hour → List ℕ
+datedRecord name t date h = valued (valuesOf t) (hourValues t h) (put (dateColumn t) date (headed t name))
+
 unfoldable pub hourRecord : ℕ → ℕ → List ℕ → RecordType → SheetHour → List ℕ
-hourRecord year quarter name t h =
-    valued (valuesOf t) (hourValues t (recordedHour h)) (put (dateColumn t) (stampOf year quarter (h .hour)) (headed t name))
+hourRecord year quarter name t h = datedRecord name t (stampOf year quarter (h .hour)) (recordedHour h)
 
 -- in the order of the columns of record 301
 abbrev pub totalValues : Quarter → List ℕ

@@ -6,13 +6,13 @@ use edr::totals::Quarter;
 ghost use mathlib.Core.Path.{_≡_};
 ghost use Prim.Native.Nat.{_+_, _≤_, _<_};
 ghost use lib.ListN.{length, take, replicate};
-ghost use Rattle.calendar.specs.Calendar.{IsQuarter};
 ghost use Rattle.columns.specs.Columns.{put};
-ghost use Rattle.edr.specs.Layout.{lengthOf, dateColumn, valueCount, valuesOf};
+ghost use Rattle.columns.specs.Written.{digitsOf};
+ghost use Rattle.edr.specs.Layout.{lengthOf, dateColumn, valueCount, valuesOf, offsetOf};
 ghost use Rattle.edr.specs.Hour.{ReadingsWithin};
 ghost use Rattle.writer.specs.Sheet.{recordedHour};
-ghost use Rattle.writer.specs.Writable.{HourWritable};
-ghost use Rattle.writer.specs.Written.{headed, valued, ended, facilityRecord, hourValues, hourRecord, totalsRecord};
+ghost use Rattle.writer.specs.Refusals.{reportBytes};
+ghost use Rattle.writer.specs.Written.{headed, valued, ended, facilityRecord, hourValues, datedRecord, totalsRecord};
 
 fn fill_blank(line: &mut [u8])
     ensures { λ _. ⌜ now (line .exit) ≡ replicate (length (now (line .entry))) 32 ⌝ }
@@ -88,13 +88,14 @@ fn hour_values(t: RecordType, h: Hour) -> [u64; 4]
     }
 }
 
-fn hour_record(line: &mut [u8], t: RecordType, year: u64, quarter: u64, name: &[u8], h: SheetHour)
-    requires { ⌜ (length (now line) ≡ lengthOf t) × (length (now name) ≡ 6) × (1 ≤ dateColumn t) × IsQuarter quarter × HourWritable year quarter h ⌝ }
-    ensures { λ _. ⌜ now (line .exit) ≡ hourRecord year quarter (now (name .entry)) t h ⌝ }
+// The record of an hour, whose date is a number of eight digits.
+fn hour_record(line: &mut [u8], t: RecordType, name: &[u8], date: u64, h: Hour)
+    requires { ⌜ (length (now line) ≡ lengthOf t) × (length (now name) ≡ 6) × (1 ≤ dateColumn t) ⌝ }
+    ensures { λ _. ⌜ now (line .exit) ≡ datedRecord (now (name .entry)) t (digitsOf 8 date) h ⌝ }
 {
     write_heading(line, t, name);
-    edr::stamp::write_stamp(line, edr::layout::date_column(t), year, quarter, h.hour);
-    write_values(line, t, hour_values(t, recorded_hour(h)));
+    columns::write_digits(line, edr::layout::date_column(t), 8, date);
+    write_values(line, t, hour_values(t, h));
 }
 
 fn totals_record(line: &mut [u8], name: &[u8], q: Quarter)
@@ -118,20 +119,22 @@ pub fn write_facility(buffer: &mut [u8], year: u64, quarter: u64, name: &[u8])
     buffer[end] = 10;
 }
 
+// The line of a type of hour k of n.
 pub fn write_hour(
     buffer: &mut [u8],
-    at: usize,
+    n: usize,
+    k: usize,
     t: RecordType,
-    year: u64,
-    quarter: u64,
     name: &[u8],
-    h: SheetHour,
+    date: u64,
+    h: Hour,
 )
-    requires { ⌜ (at + lengthOf t < length (now buffer)) × (length (now name) ≡ 6) × (1 ≤ dateColumn t) × IsQuarter quarter × HourWritable year quarter h ⌝ }
-    ensures { λ _. ⌜ now (buffer .exit) ≡ put (at + 1) (ended (hourRecord year quarter (now (name .entry)) t h)) (now (buffer .entry)) ⌝ }
+    requires { ⌜ (k < n) × (n ≤ 2208) × (reportBytes n ≤ length (now buffer)) × (length (now name) ≡ 6) × (1 ≤ dateColumn t) ⌝ }
+    ensures { λ _. ⌜ now (buffer .exit) ≡ put (offsetOf n t k + 1) (ended (datedRecord (now (name .entry)) t (digitsOf 8 date) h)) (now (buffer .entry)) ⌝ }
 {
+    let at = edr::layout::offset_of(n, t, k);
     let end = at + edr::layout::line_length(t);
-    hour_record(&mut buffer[at..end], t, year, quarter, name, h);
+    hour_record(&mut buffer[at..end], t, name, date, h);
     buffer[end] = 10;
 }
 

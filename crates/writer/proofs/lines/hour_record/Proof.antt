@@ -1,6 +1,5 @@
 -- `writer::lines::hour_record` meets its contract: the heading, the date and hour, the values. Assumes nothing.
 use native.Mathlib.Omega.{arith}
-use Rattle.writer.specs.Written.{hourRecord}
 use Rattle.writer.specs.LineLaws.{date-room}
 use borrow.Author.Needs.{needs}
 use Rattle.writer.proofs.lines.hour_record.Statement.{statement}
@@ -12,16 +11,11 @@ write-heading-requires c κs = search needs
 date-column-requires : tie.Need-date-column-requires
 date-column-requires c κs = search needs
 
-write-stamp-requires : tie.Need-write-stamp-requires
-write-stamp-requires c κs =
+write-digits-requires : tie.Need-write-digits-requires
+write-digits-requires c κs =
     let h = c .before .before .before .before in
-    let s = h .before .before .before .before in (
-      rw (c .date-column .ensures) (omega (arith, date-room (s .args .t), h .write-heading .kept .0)),
-      (s .pre .3, s .pre .4 .exists),
-    )
-
-recorded-hour-requires : tie.Need-recorded-hour-requires
-recorded-hour-requires c κs = search needs
+    let s = h .before .before .before .before in
+    rw (c .date-column .ensures) (omega (arith, date-room (s .args .t), h .write-heading .kept .0))
 
 hour-values-requires : tie.Need-hour-values-requires
 hour-values-requires c κs = search needs
@@ -33,12 +27,10 @@ same-length : tie.Need-same-length
 same-length c = search needs
 
 returns : tie.Need-returns
-unfolding hourRecord
 returns c =
     let v = c .before .before in
-    let s = v .before .before .before .before .before .before in
-    let h = s .before .before .before .before .before in
-    rw (v .write-values .ensures, v .before .hour-values .ensures, v .before .before .recorded-hour .ensures, s .write-stamp .ensures, s .before .date-column .ensures, h .write-heading .ensures)
+    let d = v .before .before .before .before .before in
+    rw (v .write-values .ensures, v .before .hour-values .ensures, d .write-digits .ensures, d .before .date-column .ensures, d .before .before .before .before .before .write-heading .ensures)
 
 pub hour-record-spec : {M : Type 1} → statement M
 hour-record-spec =
@@ -46,8 +38,7 @@ hour-record-spec =
     (tie.spec
     write-heading-requires
     date-column-requires
-    write-stamp-requires
-    recorded-hour-requires
+    write-digits-requires
     hour-values-requires
     write-values-requires
     same-length

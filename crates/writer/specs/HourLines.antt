@@ -1,0 +1,19 @@
+-- The lines of one hour among those of the others: how a report is written in one pass over the sheet.
+-- Assumes nothing.
+use Prim.Native.Nat.{ℕ, _+_}
+use mathlib.Core.List.{List, [], _∷_}
+use Rattle.columns.specs.Columns.{put}
+use Rattle.edr.specs.Layout.{offsetOf}
+use Rattle.edr.specs.declared.hour.Hour.{Hour}
+use Rattle.edr.specs.declared.layout.RecordType.{RecordType}
+use Rattle.edr.specs.declared.layout.RecordType.the-variants.{So2Concentration, NoxConcentration, Co2Concentration, VolumetricFlow, Operation, So2Mass, NoxRate, Co2Mass}
+use Rattle.writer.specs.Written.{ended, datedRecord}
+
+-- the types of which every hour has a line, in the order of the report
+abbrev pub hourTypes : List RecordType
+hourTypes = So2Concentration ∷ NoxConcentration ∷ Co2Concentration ∷ VolumetricFlow ∷ Operation ∷ So2Mass ∷ NoxRate ∷ Co2Mass ∷ []
+
+-- the lines of hour k of n, one of each of these types, put at their offsets
+unfoldable pub hourLines : List ℕ → (n k : ℕ) → List ℕ → Hour → List RecordType → List ℕ → List ℕ
+hourLines name n k date h [] buffer = buffer
+hourLines name n k date h (t ∷ ts) buffer = hourLines name n k date h ts (put (offsetOf n t k + 1) (ended (datedRecord name t date h)) buffer)
