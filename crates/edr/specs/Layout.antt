@@ -140,12 +140,15 @@ firstValue So2Mass = 10
 firstValue NoxRate = 11
 firstValue Co2Mass = 13
 
+abbrev pub valueInOrder : ℕ → Value
+valueInOrder place = getD values place (rangedValue 0 0 0 0 0)
+
 abbrev pub valuesOf : RecordType → List Value
 valuesOf t = take (valueCount t) (drop (firstValue t) values)
 
 -- the i-th value of a record from the left, from 0
 abbrev pub valueAt : RecordType → ℕ → Value
-valueAt t i = getD values (firstValue t + i) (rangedValue 0 0 0 0 0)
+valueAt t i = valueInOrder (firstValue t + i)
 
 pub record Within (v : Value) (k : ℕ) : Type 0 where
   pub least : v .least ≤ k

@@ -6,6 +6,7 @@ ghost use Rattle.edr.specs.Layout.{
   lengthOf,
   dateColumn,
   valueCount,
+  valueInOrder,
   firstValue,
   valueAt,
   linesBefore,
@@ -209,115 +210,119 @@ pub fn run_bytes_before(t: RecordType) -> usize
     }
 }
 
-// Every value of a report, record by record, left to right.
-const VALUES: [Value; 14] = [
-    Value {
-        start: 35,
-        width: 6,
-        decimals: 1,
-        least: 0,
-        most: 99999,
-    },
-    Value {
-        start: 29,
-        width: 6,
-        decimals: 1,
-        least: 0,
-        most: 99999,
-    },
-    Value {
-        start: 29,
-        width: 6,
-        decimals: 1,
-        least: 1,
-        most: 1000,
-    },
-    Value {
-        start: 39,
-        width: 10,
-        decimals: 0,
-        least: 0,
-        most: 500000000,
-    },
-    Value {
-        start: 18,
-        width: 4,
-        decimals: 2,
-        least: 1,
-        most: 100,
-    },
-    Value {
-        start: 36,
-        width: 7,
-        decimals: 1,
-        least: 0,
-        most: 999999,
-    },
-    Value {
-        start: 10,
-        width: 11,
-        decimals: 1,
-        least: 0,
-        most: 9999999999,
-    },
-    Value {
-        start: 21,
-        width: 11,
-        decimals: 1,
-        least: 0,
-        most: 9999999999,
-    },
-    Value {
-        start: 32,
-        width: 11,
-        decimals: 1,
-        least: 0,
-        most: 9999999999,
-    },
-    Value {
-        start: 43,
-        width: 6,
-        decimals: 3,
-        least: 0,
-        most: 99999,
-    },
-    Value {
-        start: 25,
-        width: 7,
-        decimals: 1,
-        least: 0,
-        most: 999999,
-    },
-    Value {
-        start: 26,
-        width: 10,
-        decimals: 1,
-        least: 5000,
-        most: 30000,
-    },
-    Value {
-        start: 36,
-        width: 6,
-        decimals: 3,
-        least: 0,
-        most: 99999,
-    },
-    Value {
-        start: 18,
-        width: 7,
-        decimals: 1,
-        least: 0,
-        most: 999999,
-    },
-];
-
 // The i-th value of a record from the left, from 0.
 pub fn value_at(t: RecordType, i: usize) -> Value
     requires { ⌜ i < valueCount t ⌝ }
     ensures { λ r. ⌜ r ≡ valueAt t i ⌝ }
 {
-    let place = first_value(t) + i;
-    VALUES[place]
+    value_in_order(first_value(t) + i)
+}
+
+// Every value of a report, record by record, left to right.
+fn value_in_order(place: usize) -> Value
+    requires { ⌜ place < 14 ⌝ }
+    ensures { λ r. ⌜ r ≡ valueInOrder place ⌝ }
+{
+    match place {
+        0 => Value {
+            start: 35,
+            width: 6,
+            decimals: 1,
+            least: 0,
+            most: 99999,
+        },
+        1 => Value {
+            start: 29,
+            width: 6,
+            decimals: 1,
+            least: 0,
+            most: 99999,
+        },
+        2 => Value {
+            start: 29,
+            width: 6,
+            decimals: 1,
+            least: 1,
+            most: 1000,
+        },
+        3 => Value {
+            start: 39,
+            width: 10,
+            decimals: 0,
+            least: 0,
+            most: 500000000,
+        },
+        4 => Value {
+            start: 18,
+            width: 4,
+            decimals: 2,
+            least: 1,
+            most: 100,
+        },
+        5 => Value {
+            start: 36,
+            width: 7,
+            decimals: 1,
+            least: 0,
+            most: 999999,
+        },
+        6 => Value {
+            start: 10,
+            width: 11,
+            decimals: 1,
+            least: 0,
+            most: 9999999999,
+        },
+        7 => Value {
+            start: 21,
+            width: 11,
+            decimals: 1,
+            least: 0,
+            most: 9999999999,
+        },
+        8 => Value {
+            start: 32,
+            width: 11,
+            decimals: 1,
+            least: 0,
+            most: 9999999999,
+        },
+        9 => Value {
+            start: 43,
+            width: 6,
+            decimals: 3,
+            least: 0,
+            most: 99999,
+        },
+        10 => Value {
+            start: 25,
+            width: 7,
+            decimals: 1,
+            least: 0,
+            most: 999999,
+        },
+        11 => Value {
+            start: 26,
+            width: 10,
+            decimals: 1,
+            least: 5000,
+            most: 30000,
+        },
+        12 => Value {
+            start: 36,
+            width: 6,
+            decimals: 3,
+            least: 0,
+            most: 99999,
+        },
+        _ => Value {
+            start: 18,
+            width: 7,
+            decimals: 1,
+            least: 0,
+            most: 999999,
+        },
+    }
 }
 
 // The line of a type's record of rank k, from 0, in a report of n operating hours; the first line is 1.
