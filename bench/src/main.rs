@@ -1,59 +1,140 @@
-//! One run on a full quarter of 2,208 operating hours: the proved check through its boundary, the second implementation's check, and a
-//! plain pass that adds up the bytes. Buffers are warm; each is timed in turn, many times, and the median is printed.
+//! On a full quarter of 2,208 operating hours, in one run and with warm buffers: the proved check and writer, those of the second
+//! implementation, and a plain pass over as many bytes. They take turns; the best time of each is printed.
+//!
+//! `bench check-only N` and `bench write-only N` only check or write N times, for a profiler.
 
 use std::hint::black_box;
+use std::process::ExitCode;
 use std::time::Instant;
 
-use second::generate::recorder;
+use edr::Written;
+use second::generate::{recorder, sheets};
 use second::random::Random;
+use second::write::Order;
 
-#[link(name = "edr_c", kind = "static")]
-extern "C" {
-    fn edr_check(file: *const u8, length: usize, answer: *mut u64, room: usize) -> u64;
+const HOURS: usize = 2208;
+const ROUNDS: usize = 100;
+
+/// One of those that are timed, and its best time so far in microseconds.
+struct Runner<'a> {
+    name: &'static str,
+    work: Box<dyn FnMut() + 'a>,
+    best: f64,
 }
 
-/// The proved check: whether it accepts.
-fn proved_check(file: &[u8]) -> bool {
-    let mut answer = [0u64; 5];
-    let code = unsafe { edr_check(file.as_ptr(), file.len(), answer.as_mut_ptr(), answer.len()) };
-    black_box(answer);
-    code == 1
+fn runner<'a, T>(name: &'static str, mut work: impl FnMut() -> T + 'a) -> Runner<'a> {
+    let work = Box::new(move || drop(black_box(work())));
+    Runner { name, work, best: f64::INFINITY }
 }
 
-fn plain_pass(file: &[u8]) -> u64 {
-    file.iter().map(|byte| u64::from(*byte)).sum()
+impl Runner<'_> {
+    /// Works once to warm the buffers and once against the clock.
+    fn turn(&mut self) {
+        (self.work)();
+        let start = Instant::now();
+        (self.work)();
+        self.best = self.best.min(start.elapsed().as_secs_f64() * 1e6);
+    }
 }
 
-/// The median time of one call, in microseconds.
-fn median(mut call: impl FnMut()) -> f64 {
-    const TURNS: usize = 101;
-    let mut times: Vec<f64> = (0..TURNS)
-        .map(|_| {
-            let start = Instant::now();
-            call();
-            start.elapsed().as_secs_f64() * 1e6
-        })
-        .collect();
-    times.sort_by(f64::total_cmp);
-    times[TURNS / 2]
+/// Times the runners in turn and prints a table; the first is the proved one, the last the plain pass.
+fn race(title: &str, mut runners: [Runner; 3]) {
+    for _ in 0..ROUNDS {
+        runners.iter_mut().for_each(Runner::turn);
+    }
+    let [proved, _, plain] = runners.each_ref().map(|runner| runner.best);
+    println!("{title:<24}{:>14}{:>12}{:>12}", "microseconds", "to proved", "to plain");
+    for Runner { name, best, .. } in &runners {
+        println!("  {name:<22}{best:>14.1}{:>12.2}{:>12.2}", best / proved, best / plain);
+    }
 }
 
-fn main() {
+/// An honest report of the quarter, as a recorder writes it.
+fn recorded_file() -> Vec<u8> {
     let mut random = Random::new(1);
-    let report = recorder::report_in(&mut random, 2005, 3, 2208);
-    let file = recorder::bytes(&mut random, &report);
-    assert!(proved_check(&file), "the proved check refuses the quarter");
-    let plain = median(|| {
-        black_box(plain_pass(black_box(&file)));
-    });
-    let proved = median(|| {
-        black_box(proved_check(black_box(&file)));
-    });
-    let second = median(|| {
-        black_box(second::check::check(black_box(&file)));
-    });
-    println!("check of a full quarter, {} bytes, median in microseconds", file.len());
-    println!("  proved               {proved:10.1}");
-    println!("  second               {second:10.1}   {:6.2} times the proved one", second / proved);
-    println!("  plain pass           {plain:10.1}   the proved one takes {:6.2} times as long", proved / plain);
+    let report = recorder::report_in(&mut random, 2005, 3, HOURS);
+    recorder::bytes(&mut random, &report)
+}
+
+/// A sheet of the quarter.
+fn order() -> Order {
+    sheets::order_in(&mut Random::new(1), 2005, 3, HOURS)
+}
+
+fn proved_write(order: &Order, buffer: &mut [u8]) -> Written {
+    edr::write(order.year.into(), order.quarter.into(), &order.name, &order.words, buffer)
+}
+
+/// The report that both writers give of the sheet.
+fn written_file(order: &Order) -> Vec<u8> {
+    let mut proved = vec![0; edr::report_length(HOURS)];
+    let mut second = proved.clone();
+    assert_eq!(proved_write(order, &mut proved), Written::Length(proved.len()));
+    assert_eq!(second::write::write(order, &mut second), Ok(second.len()));
+    assert!(proved == second, "the writers differ");
+    proved
+}
+
+fn race_checks() {
+    let file = &recorded_file();
+    assert_eq!(edr::check(file).to_string(), second::check::check(file).to_string());
+    let sum = || black_box(file).iter().map(|&byte| u64::from(byte)).sum::<u64>();
+    race(
+        "check",
+        [
+            runner("proved", || edr::check(black_box(file))),
+            runner("second", || second::check::check(black_box(file))),
+            runner("adding up the bytes", sum),
+        ],
+    );
+}
+
+fn race_writers() {
+    let order = &order();
+    let file = &written_file(order);
+    let [mut proved, mut second, mut plain] = [(); 3].map(|()| file.clone());
+    race(
+        "write",
+        [
+            runner("proved", || proved_write(black_box(order), black_box(&mut proved))),
+            runner("second", || second::write::write(black_box(order), black_box(&mut second))),
+            runner("copying the bytes", || black_box(&mut plain).copy_from_slice(black_box(file))),
+        ],
+    );
+}
+
+fn race_all() {
+    println!("{HOURS} hours, {} bytes, best of {ROUNDS} rounds", edr::report_length(HOURS));
+    race_checks();
+    race_writers();
+}
+
+fn check_only(times: usize) {
+    let file = recorded_file();
+    for _ in 0..times {
+        black_box(edr::check(black_box(&file)));
+    }
+}
+
+fn write_only(times: usize) {
+    let order = order();
+    let mut buffer = vec![0; edr::report_length(HOURS)];
+    for _ in 0..times {
+        black_box(proved_write(black_box(&order), black_box(&mut buffer)));
+    }
+}
+
+fn main() -> ExitCode {
+    let arguments: Vec<String> = std::env::args().skip(1).collect();
+    let times = arguments.get(1).and_then(|word| word.parse().ok());
+    match (arguments.first().map(String::as_str), times) {
+        (None, _) => race_all(),
+        (Some("check-only"), Some(times)) => check_only(times),
+        (Some("write-only"), Some(times)) => write_only(times),
+        _ => {
+            eprintln!("bench, bench check-only N or bench write-only N");
+            return ExitCode::FAILURE;
+        }
+    }
+    ExitCode::SUCCESS
 }

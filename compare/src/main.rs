@@ -1,0 +1,118 @@
+//! Fresh cases of the second implementation's maker, answered by the proved library and by the second implementation. Prints each
+//! case whose answers differ, and at the end how many cases there were and how many differ.
+
+use std::fmt::Display;
+use std::process::ExitCode;
+
+use second::cases::{Case, FILL};
+use second::generate;
+use second::write::Order;
+
+/// What the two sides say of one case.
+struct Answers {
+    proved: String,
+    second: String,
+}
+
+/// Goes through cases, with the report that the last sheet gave and that changes are made to.
+#[derive(Default)]
+struct Comparing {
+    report: Vec<u8>,
+}
+
+impl Comparing {
+    fn answers(&mut self, case: &Case) -> Answers {
+        match case {
+            Case::File(bytes) => checked(bytes),
+            Case::Write { order, room } => self.written(order, *room),
+            Case::Patch(edits) => {
+                edits.iter().for_each(|&(offset, byte)| self.report[offset] = byte);
+                checked(&self.report)
+            }
+        }
+    }
+
+    /// Both writers, with every byte of their buffers; and if there is a report, both checks of it. After a refusal the buffer has to
+    /// be as it was.
+    fn written(&mut self, order: &Order, room: usize) -> Answers {
+        let mut buffer = vec![FILL; room];
+        let proved =
+            edr::write(order.year.into(), order.quarter.into(), &order.name, &order.words, &mut buffer);
+        let mut expected = vec![FILL; room];
+        let second = second::write::write(order, &mut expected);
+        if second.is_err() {
+            expected.fill(FILL);
+        }
+        let place = (0..room).find(|&place| buffer[place] != expected[place]);
+        let told = match second {
+            Ok(length) => format!("written {length}"),
+            Err(number) => format!("refused {number}"),
+        };
+        let mut answers =
+            Answers { proved: with_byte(proved, &buffer, place), second: with_byte(told, &expected, place) };
+        if let Ok(length) = second {
+            self.report = expected;
+            self.report.truncate(length);
+            answers.add(checked(&self.report));
+        }
+        answers
+    }
+}
+
+impl Answers {
+    fn add(&mut self, more: Answers) {
+        self.proved = format!("{}, {}", self.proved, more.proved);
+        self.second = format!("{}, {}", self.second, more.second);
+    }
+}
+
+/// Both checks of a file.
+fn checked(file: &[u8]) -> Answers {
+    Answers { proved: edr::check(file).to_string(), second: second::check::check(file).to_string() }
+}
+
+/// A writer's answer, with the first byte of its buffer that is unlike the other's.
+fn with_byte(told: impl Display, buffer: &[u8], place: Option<usize>) -> String {
+    match place {
+        Some(place) => format!("{told} with byte {place} {}", buffer[place]),
+        None => told.to_string(),
+    }
+}
+
+fn kind(case: &Case) -> &'static str {
+    match case {
+        Case::File(_) => "file",
+        Case::Write { .. } => "sheet",
+        Case::Patch(_) => "changed report",
+    }
+}
+
+/// Compares all cases of a seed and returns how many differ.
+fn compare(seed: u64, count: usize) -> usize {
+    let cases = generate::cases(seed, count);
+    let mut comparing = Comparing::default();
+    let mut differ = 0;
+    for (number, case) in cases.iter().enumerate() {
+        let Answers { proved, second } = comparing.answers(case);
+        if proved != second {
+            differ += 1;
+            println!("case {number}, {}: proved {proved}; second {second}", kind(case));
+        }
+    }
+    println!("{} cases, {differ} differ", cases.len());
+    differ
+}
+
+fn main() -> ExitCode {
+    let numbers: Option<Vec<u64>> = std::env::args().skip(1).map(|word| word.parse().ok()).collect();
+    match numbers.as_deref() {
+        Some(&[seed, count]) => match compare(seed, count as usize) {
+            0 => ExitCode::SUCCESS,
+            _ => ExitCode::FAILURE,
+        },
+        _ => {
+            eprintln!("compare SEED COUNT, two numbers");
+            ExitCode::from(2)
+        }
+    }
+}
