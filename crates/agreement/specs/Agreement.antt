@@ -61,7 +61,7 @@ module _ (year quarter : ℕ) (name sheet : List ℕ) where
 
   sheet-holds : sheetHolds year quarter name sheet ≡ true → Holds
   unfolding sheetHolds
-  sheet-holds e = go (headingHolds year quarter name) refl (eqb (length sheet % 6) 0) (kindsHold 0 sheet) e
+  sheet-holds e = go (headingHolds year quarter name) refl (eqb (length sheet % 6) 0) (kindsHold sheet 0 (hourCount sheet)) e
     where
       go : (a : Bool) → headingHolds year quarter name ≡ a → (b c : Bool) →
           elim a [ false ↦ false | true ↦ elim b [ false ↦ false | true ↦ elim c [ false ↦ false | true ↦ hoursRise (hoursInQuarter year quarter) 0 (hoursOf sheet) ] ] ] ≡ true → Holds

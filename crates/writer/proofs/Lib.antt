@@ -1,4 +1,4 @@
-pub mod Tests
+pub mod OnePass
 pub mod Filling
 pub mod Runs
 pub mod HourLines

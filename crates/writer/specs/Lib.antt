@@ -1,5 +1,6 @@
 pub mod Sheet
 pub mod Refusals
+pub mod OnePass
 pub mod Writable
 pub mod SheetLaws
 pub mod RefusalLaws

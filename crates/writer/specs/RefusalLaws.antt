@@ -39,7 +39,7 @@ unfolding sheetHolds
 sheet-holds year quarter name sheet e =
     let a = first-true (headingHolds year quarter name) e in
     let b = first-true (eqb (length sheet % 6) 0) (a .1) in
-    let c = first-true (kindsHold 0 sheet) (b .1) in
+    let c = first-true (kindsHold sheet 0 (hourCount sheet)) (b .1) in
     record { heading = heading-holds year quarter name (a .0); words = eqb-true _ _ (b .0); kinds = c .0; rises = c .1 }
 
 pub hour-count : (year quarter : ℕ) (name sheet : List ℕ) → Shaped year quarter name sheet → hourCount sheet ≤ 2208

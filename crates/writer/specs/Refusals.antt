@@ -1,6 +1,6 @@
 -- The refusals of the writer, 31 to 34, each tried over the whole sheet before the next.
 -- Assumes nothing.
-use Prim.Native.Nat.{ℕ, suc, _+_, _*_, _%_}
+use Prim.Native.Nat.{ℕ, zero, suc, _+_, _*_, _%_}
 use mathlib.Core.List.{List, [], _∷_}
 use mathlib.Core.Bool.{Bool, true, false, _&&_, not}
 use lib.ListN.{length}
@@ -11,7 +11,7 @@ use Rattle.edr.specs.Layout.{so2Ppm, noxPpm, co2Percent, flowScfh, timeHours, f
 use Rattle.edr.specs.Formulas.{roundedFigures}
 use Rattle.edr.specs.declared.layout.Value.{Value}
 use Rattle.edr.specs.declared.hour.Figures.{Figures}
-use Rattle.writer.specs.Sheet.{kindOf, hourCount, hoursOf}
+use Rattle.writer.specs.Sheet.{sheetKind, hourCount, hoursOf}
 use Rattle.writer.specs.declared.sheet.SheetHour.{SheetHour}
 
 -- a test over every hour
@@ -25,10 +25,18 @@ unfoldable pub headingHolds : ℕ → ℕ → List ℕ → Bool
 headingHolds year quarter name =
     leb 1995 year && leb year 2094 && leb 1 quarter && leb quarter 4 && not (all isBlank name) && all isPrintable name
 
--- 31: the kinds of the words from place i on are 0 to 5 in order, hour by hour
-unfoldable pub kindsHold : ℕ → List ℕ → Bool
-kindsHold i [] = true
-kindsHold i (word ∷ words) = elim (eqb (kindOf word) (i % 6)) [ true ↦ kindsHold (suc i) words | false ↦ false ]
+-- 31: the kinds of so many words of hour k, from word j on, are j, j + 1 and so on
+unfoldable pub kindsRise : List ℕ → ℕ → ℕ → ℕ → Bool
+kindsRise sheet k j zero = true
+kindsRise sheet k j (suc left) = elim (eqb (sheetKind sheet k j) j) [ true ↦ kindsRise sheet k (suc j) left | false ↦ false ]
+
+abbrev pub hourKinds : List ℕ → ℕ → Bool
+hourKinds sheet k = kindsRise sheet k 0 6
+
+-- 31: the kinds of so many hours, from hour k on
+unfoldable pub kindsHold : List ℕ → ℕ → ℕ → Bool
+kindsHold sheet k zero = true
+kindsHold sheet k (suc left) = elim (hourKinds sheet k) [ true ↦ kindsHold sheet (suc k) left | false ↦ false ]
 
 -- 31: the hours rise, from `from` on, and lie below the number of hours of the quarter
 unfoldable pub hoursRise : ℕ → ℕ → List SheetHour → Bool
@@ -44,7 +52,7 @@ sheetHolds year quarter name sheet =
           elim (eqb (length sheet % 6) 0) [
             | false ↦ false
             | true ↦
-                elim (kindsHold 0 sheet) [ false ↦ false | true ↦ hoursRise (hoursInQuarter year quarter) 0 (hoursOf sheet) ]
+                elim (kindsHold sheet 0 (hourCount sheet)) [ false ↦ false | true ↦ hoursRise (hoursInQuarter year quarter) 0 (hoursOf sheet) ]
           ]
     ]
 

@@ -18,7 +18,11 @@ valueOf word = word % 2 ^ 29
 abbrev pub apart : ℕ → Word
 apart word = record { kind = kindOf word; value = valueOf word }
 
--- the value of word j of hour k, both from 0
+-- the kind and the value of word j of hour k, both from 0
+
+abbrev pub sheetKind : List ℕ → ℕ → ℕ → ℕ
+sheetKind sheet k j = kindOf (getD sheet (6 * k + j) 0)
+
 abbrev pub sheetValue : List ℕ → ℕ → ℕ → ℕ
 sheetValue sheet k j = valueOf (getD sheet (6 * k + j) 0)
 

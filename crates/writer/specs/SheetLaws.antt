@@ -47,13 +47,9 @@ hours-count sheet = hours-length sheet 0 (hourCount sheet)
 
 -- a test of a list is the first one's and the others'
 module _ (p : SheetHour → Bool) (h : SheetHour) (hs : List SheetHour) where
-  pub every-next : p h ≡ true → every p (h ∷ hs) ≡ every p hs
+  every-next : p h ≡ true → every p (h ∷ hs) ≡ every p hs
   unfolding every
   every-next e = rw (e, every)
-
-  pub every-stop : p h ≡ false → every p (h ∷ hs) ≡ false
-  unfolding every
-  every-stop e = rw (e, every)
 
   pub every-head : every p (h ∷ hs) ≡ true → p h ≡ true
   unfolding every

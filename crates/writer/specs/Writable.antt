@@ -23,7 +23,7 @@ pub record Heading (year quarter : ℕ) (name : List ℕ) : Type 0 where
 pub record Shaped (year quarter : ℕ) (name sheet : List ℕ) : Type 0 where
   pub heading : Heading year quarter name
   pub words : length sheet % 6 ≡ 0
-  pub kinds : kindsHold 0 sheet ≡ true
+  pub kinds : kindsHold sheet 0 (hourCount sheet) ≡ true
   pub rises : hoursRise (hoursInQuarter year quarter) 0 (hoursOf sheet) ≡ true
 
 -- a sheet whose hours lie in their ranges, with their figures

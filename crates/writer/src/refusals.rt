@@ -3,23 +3,20 @@ use crate::sheet::SheetHour;
 use edr::hour::Figures;
 use edr::layout::RecordType;
 ghost use mathlib.Core.Path.{_≡_};
-ghost use mathlib.Core.Bool.{true};
-ghost use Prim.Native.Nat.{_≤_, _<_};
+ghost use Prim.Native.Nat.{_+_, _*_, _≤_, _<_};
+ghost use lib.ListN.{length};
 ghost use Rattle.edr.specs.Layout.{valueCount, valueAt};
-ghost use Rattle.writer.specs.Sheet.{hoursOf};
+ghost use Rattle.writer.specs.Sheet.{hourCount};
 ghost use Rattle.writer.specs.Refusals.{
-  every,
   headingHolds,
-  kindsHold,
-  hoursRise,
-  sheetHolds,
+  hourKinds,
   inRange,
   readingsHold,
   figuresHold,
-  figuresFit,
   reportBytes,
   refusalOf,
 };
+ghost use Rattle.writer.specs.OnePass.{hourRefusal, earlier, refusalFrom};
 
 fn heading_holds(year: u64, quarter: u64, name: &[u8]) -> bool
     ensures { λ r. ⌜ r ≡ headingHolds year quarter (now (name .entry)) ⌝ }
@@ -42,55 +39,20 @@ fn heading_holds(year: u64, quarter: u64, name: &[u8]) -> bool
     columns::all_printable(name)
 }
 
-fn kinds_hold(sheet: &[u32]) -> bool
-    ensures { λ r. ⌜ r ≡ kindsHold 0 (now (sheet .entry)) ⌝ }
+fn kinds_hold(sheet: &[u32], k: usize) -> bool
+    requires { ⌜ 6 * k + 6 ≤ length (now sheet) ⌝ }
+    ensures { λ r. ⌜ r ≡ hourKinds (now (sheet .entry)) k ⌝ }
 {
-    let mut i = 0;
-    while i < sheet.len() {
-        let kind = crate::sheet::word_apart(sheet[i]).kind;
-        if kind != (i % 6) as u64 {
+    let first = 6 * k;
+    let mut j = 0;
+    while j < 6 {
+        let kind = crate::sheet::word_apart(sheet[first + j]).kind;
+        if kind != j as u64 {
             return false;
         }
-        i += 1;
+        j += 1;
     }
     true
-}
-
-// Whether the hours rise and lie below the number of hours of the quarter.
-fn hours_rise(below: u64, sheet: &[u32]) -> bool
-    ensures { λ r. ⌜ r ≡ hoursRise below 0 (hoursOf (now (sheet .entry))) ⌝ }
-{
-    let n = sheet.len() / 6;
-    let mut from = 0;
-    let mut k = 0;
-    while k < n {
-        let hour = crate::sheet::hour_at(sheet, k).hour;
-        if hour < from {
-            return false;
-        }
-        if below <= hour {
-            return false;
-        }
-        from = hour + 1;
-        k += 1;
-    }
-    true
-}
-
-// 31
-fn sheet_holds(year: u64, quarter: u64, name: &[u8], sheet: &[u32]) -> bool
-    ensures { λ r. ⌜ r ≡ sheetHolds year quarter (now (name .entry)) (now (sheet .entry)) ⌝ }
-{
-    if !heading_holds(year, quarter, name) {
-        return false;
-    }
-    if sheet.len() % 6 != 0 {
-        return false;
-    }
-    if !kinds_hold(sheet) {
-        return false;
-    }
-    hours_rise(calendar::hours_in_quarter(year, quarter), sheet)
 }
 
 // Whether a number lies in the range of the i-th value of a record.
@@ -126,21 +88,6 @@ fn readings_hold(h: SheetHour) -> bool
     in_range(RecordType::NoxRate, 0, h.readings.fc)
 }
 
-// 32
-fn ranges_hold(sheet: &[u32]) -> bool
-    ensures { λ r. ⌜ r ≡ every readingsHold (hoursOf (now (sheet .entry))) ⌝ }
-{
-    let n = sheet.len() / 6;
-    let mut k = 0;
-    while k < n {
-        if !readings_hold(crate::sheet::hour_at(sheet, k)) {
-            return false;
-        }
-        k += 1;
-    }
-    true
-}
-
 fn figures_hold(f: Figures) -> bool
     ensures { λ r. ⌜ r ≡ figuresHold f ⌝ }
 {
@@ -156,21 +103,59 @@ fn figures_hold(f: Figures) -> bool
     in_range(RecordType::Co2Mass, 0, f.co2)
 }
 
-// 33
-fn figures_fit(sheet: &[u32]) -> bool
-    requires { ⌜ every readingsHold (hoursOf (now sheet)) ≡ true ⌝ }
-    ensures { λ r. ⌜ r ≡ every figuresFit (hoursOf (now (sheet .entry))) ⌝ }
+// 32 or 33 for an hour's values; 0 where they hold.
+fn hour_refusal(h: SheetHour) -> u64
+    ensures { λ r. ⌜ r ≡ hourRefusal h ⌝ }
+{
+    if !readings_hold(h) {
+        return 32;
+    }
+    if !figures_hold(edr::formulas::rounded_figures(h.readings)) {
+        return 33;
+    }
+    0
+}
+
+// The one of two refusals that is tried first; 0 is none.
+fn earlier(a: u64, b: u64) -> u64
+    ensures { λ r. ⌜ r ≡ earlier a b ⌝ }
+{
+    if a == 0 {
+        return b;
+    }
+    if b == 0 {
+        return a;
+    }
+    if b < a {
+        return b;
+    }
+    a
+}
+
+// 31 to 33, in one pass over the hours.
+fn sheet_refusal(below: u64, sheet: &[u32]) -> u64
+    ensures { λ r. ⌜ r ≡ refusalFrom below (now (sheet .entry)) 0 (hourCount (now (sheet .entry))) 0 0 ⌝ }
 {
     let n = sheet.len() / 6;
+    let mut from = 0;
+    let mut found = 0;
     let mut k = 0;
     while k < n {
-        let h = crate::sheet::hour_at(sheet, k);
-        if !figures_hold(edr::formulas::rounded_figures(h.readings)) {
-            return false;
+        if !kinds_hold(sheet, k) {
+            return 31;
         }
+        let h = crate::sheet::hour_at(sheet, k);
+        if h.hour < from {
+            return 31;
+        }
+        if below <= h.hour {
+            return 31;
+        }
+        found = earlier(found, hour_refusal(h));
+        from = h.hour + 1;
         k += 1;
     }
-    true
+    found
 }
 
 // The length of a report of n operating hours.
@@ -185,14 +170,15 @@ pub fn report_bytes(n: usize) -> usize
 pub fn refusal(year: u64, quarter: u64, name: &[u8], sheet: &[u32], room: usize) -> u64
     ensures { λ r. ⌜ r ≡ refusalOf year quarter (now (name .entry)) (now (sheet .entry)) room ⌝ }
 {
-    if !sheet_holds(year, quarter, name, sheet) {
+    if !heading_holds(year, quarter, name) {
         return 31;
     }
-    if !ranges_hold(sheet) {
-        return 32;
+    if sheet.len() % 6 != 0 {
+        return 31;
     }
-    if !figures_fit(sheet) {
-        return 33;
+    let found = sheet_refusal(calendar::hours_in_quarter(year, quarter), sheet);
+    if found != 0 {
+        return found;
     }
     if room < report_bytes(sheet.len() / 6) {
         return 34;

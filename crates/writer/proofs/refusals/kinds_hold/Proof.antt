@@ -1,23 +1,28 @@
--- `writer::refusals::kinds_hold` meets its contract: the kinds from word i on decide as all do. Assumes nothing.
+-- `writer::refusals::kinds_hold` meets its contract: the kinds from word j of the hour on decide as all six do. Assumes nothing.
 use Prim.Native.Nat.{_-_, _≤_}
 use mathlib.Core.Path.{_≡_, refl, ap, _∙_}
 use native.Mathlib.Omega.{arith}
-use lib.ListN.{length, drop}
 use borrow.Author.Needs.{needs}
-use Rattle.writer.specs.Refusals.{kindsHold}
+use Rattle.writer.specs.Refusals.{kindsRise, hourKinds}
 use Rattle.writer.specs.declared.sheet.Word.{Word}
-use Rattle.writer.proofs.Tests.{kinds-more, kinds-stop, kinds-end}
+use Rattle.writer.proofs.OnePass.{words-more, words-stop, words-end}
 use Rattle.writer.proofs.refusals.kinds_hold.Statement.{statement}
 use Rattle.writer.proofs.refusals.kinds_hold.Tie as tie
 
 abbrev Inv-loop : tie.InvT-loop
-Inv-loop sheet i₀ i = (i ≤ length sheet) × (kindsHold i (drop i sheet) ≡ kindsHold 0 sheet)
+Inv-loop sheet k first j₀ j = (j ≤ 6) × (kindsRise sheet k j (6 - j) ≡ hourKinds sheet k)
 
 abbrev μ-loop : tie.MeasureT-loop
-μ-loop sheet i₀ i = length sheet - i
+μ-loop sheet k first j₀ j = 6 - j
+
+mul-first : tie.Need-mul-first Inv-loop μ-loop
+mul-first c = omega arith
 
 loop-holds : tie.Need-loop-holds Inv-loop μ-loop
 loop-holds c = (omega arith, refl)
+
+add-word-apart : tie.Need-add-word-apart Inv-loop μ-loop
+add-word-apart c = omega arith
 
 mul-word-apart : tie.Need-mul-word-apart Inv-loop μ-loop
 mul-word-apart c = omega arith
@@ -32,10 +37,10 @@ returns : tie.Need-returns Inv-loop μ-loop
 returns c =
     let l = c .before .before .before .before .loop in
     let w = ap (λ (w : Word). w .kind) (c .before .word-apart .ensures) in
-    kinds-stop _ (l .i) (omega arith) (λ e. omega arith) ∙ l .inv .1
+    words-stop _ _ (l .j) (omega arith) (λ e. omega arith) ∙ l .inv .1
 
-add-i : tie.Need-add-i Inv-loop μ-loop
-add-i c = omega arith
+add-j : tie.Need-add-j Inv-loop μ-loop
+add-j c = omega arith
 
 loop-less : tie.Need-loop-less Inv-loop μ-loop
 loop-less c = omega arith
@@ -44,10 +49,10 @@ loop-again : tie.Need-loop-again Inv-loop μ-loop
 loop-again c =
     let l = c .before .before .before .before .loop in
     let w = ap (λ (w : Word). w .kind) (c .before .word-apart .ensures) in
-    (omega arith, kinds-more _ (l .i) (omega arith) (omega arith) ∙ l .inv .1)
+    (omega arith, words-more _ _ (l .j) (omega arith) (omega arith) ∙ l .inv .1)
 
 returns-2 : tie.Need-returns-2 Inv-loop μ-loop
-returns-2 c = kinds-end _ (c .before .loop .i) (omega arith) ∙ c .before .loop .inv .1
+returns-2 c = words-end _ _ (c .before .loop .j) (omega arith) ∙ c .before .loop .inv .1
 
 pub kinds-hold-spec : {M : Type 1} → statement M
 kinds-hold-spec =
@@ -55,12 +60,14 @@ kinds-hold-spec =
     (tie.spec
     Inv-loop
     μ-loop
+    mul-first
     loop-holds
+    add-word-apart
     mul-word-apart
     shared-slice-read-word-apart
     word-apart-requires
     returns
-    add-i
+    add-j
     loop-less
     loop-again
     returns-2)

@@ -1,97 +1,68 @@
--- `writer::refusals::refusal` meets its contract: the tests in their order, each over the whole sheet. Assumes nothing.
-use mathlib.Core.Path.{sym, _∙_}
-use borrow.Author.Tests.{not-true, not-false, le-leb, lt-leb}
-use Rattle.writer.specs.Refusals.{refusalOf}
-use Rattle.writer.specs.RefusalLaws.{sheet-holds, hour-count}
+-- `writer::refusals::refusal` meets its contract: what one pass over the hours finds is what the tests find in their order.
+-- Assumes nothing.
+use mathlib.Core.Path.{_≡_, sym, _∙_}
+use mathlib.Core.Bool.{true, false}
 use borrow.Author.Needs.{needs}
+use borrow.Author.Tests.{not-true, not-false, le-leb, lt-leb}
+use Rattle.writer.specs.Refusals.{headingHolds}
+use Rattle.writer.specs.RefusalLaws.{heading-holds, sheet-holds, hour-count}
+use Rattle.writer.proofs.OnePass.{passed, heading-wrong, words-wrong, found-told, room-told, none-found}
 use Rattle.writer.proofs.refusals.refusal.Statement.{statement}
 use Rattle.writer.proofs.refusals.refusal.Tie as tie
 
-sheet-holds-requires : tie.Need-sheet-holds-requires
-sheet-holds-requires c κs = search needs
+heading-holds-requires : tie.Need-heading-holds-requires
+heading-holds-requires c κs = search needs
 
 returns : tie.Need-returns
-unfolding refusalOf
-returns c =
-    let s = c .before .sheet-holds in
-    rw (← s .ensures, not-true (s .result) (c .if1 .taken), refusalOf)
+returns c = heading-wrong _ _ _ _ _ (sym (c .before .heading-holds .ensures) ∙ not-true _ (c .if1 .taken))
 
-ranges-hold-requires : tie.Need-ranges-hold-requires
-ranges-hold-requires c κs = search needs
+headed : (c : tie.Else1) → let x = c .before .before .before .before .args in headingHolds (x .year) (x .quarter) (x .name .now) ≡ true
+headed c = sym (c .before .heading-holds .ensures) ∙ not-false _ (c .if1 .left)
 
 returns-2 : tie.Need-returns-2
-unfolding refusalOf
-returns-2 c =
-    let s = c .before .before .before .sheet-holds in
-    let r = c .before .ranges-hold in
-    rw (← s .ensures, not-false (s .result) (c .before .before .if1 .left), ← r .ensures, not-true (r .result) (c .if2 .taken), refusalOf)
+returns-2 c = words-wrong _ _ _ _ _ (headed (c .before)) (c .if2 .taken)
 
-figures-fit-requires : tie.Need-figures-fit-requires
-figures-fit-requires c κs =
-    let r = c .before .ranges-hold in
-    sym (r .ensures) ∙ not-false (r .result) (c .if2 .left)
+hours-in-quarter-requires : tie.Need-hours-in-quarter-requires
+hours-in-quarter-requires c κs = heading-holds _ _ _ (headed (c .before)) .isQuarter
+
+sheet-refusal-requires : tie.Need-sheet-refusal-requires
+sheet-refusal-requires c κs = search needs
+
+given : (c : tie.After-sheet-refusal) →
+    let x = c .before .before .before .before .before .before .before .args in c .sheet-refusal .result ≡ passed (x .year) (x .quarter) (x .sheet .now)
+given c = rw (c .before .hours-in-quarter .ensures) at (c .sheet-refusal .ensures)
 
 returns-3 : tie.Need-returns-3
-unfolding refusalOf
 returns-3 c =
-    let b = c .before .before in
-    let s = b .before .before .before .sheet-holds in
-    let r = b .before .ranges-hold in
-    let f = c .before .figures-fit in
-    rw (← s .ensures, not-false (s .result) (b .before .before .if1 .left), ← r .ensures, not-false (r .result) (b .if2 .left), ← f .ensures, not-true (f .result) (c .if3 .taken), refusalOf)
+    let i = c .before .before .before in
+    found-told _ _ _ _ _ (headed (i .before)) (i .if2 .left) _ (given (c .before)) (c .if3 .taken)
 
 report-bytes-requires : tie.Need-report-bytes-requires
 report-bytes-requires c κs =
-    let s = c .before .before .before .before .before .sheet-holds in
-    hour-count _ _ _ _ (sheet-holds _ _ _ _ (sym (s .ensures) ∙ not-false (s .result) (c .before .before .before .before .if1 .left)))
+    let i = c .before .before .before in
+    hour-count _ _ _ _ (sheet-holds _ _ _ _ (none-found _ _ _ _ 0 (headed (i .before)) (i .if2 .left) (sym (given (c .before)) ∙ c .if3 .left)))
 
 returns-4 : tie.Need-returns-4
-unfolding refusalOf
 returns-4 c =
-    let b = c .before .before .before .before in
-    let s = b .before .before .before .sheet-holds in
-    let r = b .before .ranges-hold in
-    let f = c .before .before .before .figures-fit in
-    rw (
-      ← s .ensures,
-      not-false (s .result) (b .before .before .if1 .left),
-      ← r .ensures,
-      not-false (r .result) (b .if2 .left),
-      ← f .ensures,
-      not-false (f .result) (c .before .before .if3 .left),
-      ← c .before .report-bytes .ensures,
-      lt-leb _ _ (c .if4 .taken),
-      refusalOf,
-    )
+    let f = c .before .before in
+    let i = f .before .before .before in
+    room-told _ _ _ _ _ (headed (i .before)) (i .if2 .left) (sym (given (f .before)) ∙ f .if3 .left) false (lt-leb _ _ (rw (c .before .report-bytes .ensures) at (c .if4 .taken)))
 
 returns-5 : tie.Need-returns-5
-unfolding refusalOf
 returns-5 c =
-    let b = c .before .before .before .before in
-    let s = b .before .before .before .sheet-holds in
-    let r = b .before .ranges-hold in
-    let f = c .before .before .before .figures-fit in
-    rw (
-      ← s .ensures,
-      not-false (s .result) (b .before .before .if1 .left),
-      ← r .ensures,
-      not-false (r .result) (b .if2 .left),
-      ← f .ensures,
-      not-false (f .result) (c .before .before .if3 .left),
-      ← c .before .report-bytes .ensures,
-      le-leb _ _ (c .if4 .left),
-      refusalOf,
-    )
+    let f = c .before .before in
+    let i = f .before .before .before in
+    room-told _ _ _ _ _ (headed (i .before)) (i .if2 .left) (sym (given (f .before)) ∙ f .if3 .left) true (le-leb _ _ (rw (c .before .report-bytes .ensures) at (c .if4 .left)))
 
 pub refusal-spec : {M : Type 1} → statement M
 refusal-spec =
     tie.close
     (tie.spec
-    sheet-holds-requires
+    heading-holds-requires
     returns
-    ranges-hold-requires
     returns-2
-    figures-fit-requires
+    hours-in-quarter-requires
+    sheet-refusal-requires
     returns-3
     report-bytes-requires
     returns-4

@@ -1,0 +1,33 @@
+-- The refusals 31 to 33 as one pass over the hours finds them. The contracts inside the writer name these; proofs/OnePass.antt proves
+-- that they give what refusalOf gives. Assumes nothing.
+use Prim.Native.Nat.{ℕ, zero, suc, min}
+use mathlib.Core.List.{List}
+use mathlib.Core.Bool.{Bool, true, false}
+use Rattle.writer.specs.Sheet.{hoursFrom}
+use Rattle.writer.specs.Refusals.{every, kindsHold, hoursRise, readingsHold, figuresFit}
+use Rattle.writer.specs.declared.sheet.SheetHour.{SheetHour}
+
+-- 32 or 33 where the readings or the figures do not hold; 0 is none
+abbrev pub valuesRefusal : Bool → Bool → ℕ
+valuesRefusal readings figures = elim readings [ false ↦ 32 | true ↦ elim figures [ false ↦ 33 | true ↦ 0 ] ]
+
+unfoldable pub hourRefusal : SheetHour → ℕ
+hourRefusal h = valuesRefusal (readingsHold h) (figuresFit h)
+
+unfoldable pub hoursRefusal : List SheetHour → ℕ
+hoursRefusal hs = valuesRefusal (every readingsHold hs) (every figuresFit hs)
+
+-- the one of two refusals that is tried first
+unfoldable pub earlier : ℕ → ℕ → ℕ
+earlier zero b = b
+earlier (suc a) zero = suc a
+earlier (suc a) (suc b) = suc (min a b)
+
+-- 31 where the kinds or the hours are wrong, and else the refusal of the values
+unfoldable pub inOrder : Bool → Bool → ℕ → ℕ
+inOrder kinds rises values = elim kinds [ false ↦ 31 | true ↦ elim rises [ false ↦ 31 | true ↦ values ] ]
+
+-- of so many hours, from hour k on, where the hours before it allow the hours from `from` on and were found to have a refusal
+unfoldable pub refusalFrom : ℕ → List ℕ → ℕ → ℕ → ℕ → ℕ → ℕ
+refusalFrom below sheet k left from found =
+    inOrder (kindsHold sheet k left) (hoursRise below from (hoursFrom sheet k left)) (earlier found (hoursRefusal (hoursFrom sheet k left)))
