@@ -1,4 +1,5 @@
 pub mod OnePass
+pub mod FirstRefusal
 pub mod Filling
 pub mod Runs
 pub mod HourLines

@@ -1,18 +1,16 @@
--- One pass over the hours finds the refusal that the tests find one after the other. Assumes nothing.
-use Prim.Native.Nat.{ℕ, zero, suc, _+_, _-_, _%_, _≤_, _<_}
+-- The pass over the hours, one word or one hour further, broken off, and at the end. Assumes nothing.
+use Prim.Native.Nat.{ℕ, zero, suc, _+_, _-_, _≤_, _<_}
 use mathlib.Core.Path.{_≡_, refl, sym, ap, _∙_}
 use mathlib.Core.List.{List, _∷_}
-use mathlib.Core.Bool.{Bool, true, false, _&&_}
+use mathlib.Core.Bool.{Bool, true, false, and-false}
 use native.Mathlib.Nat.{sub-zero}
 use native.Mathlib.Numerals.{add-one}
 use native.Mathlib.Omega.{arith}
 use lib.Dec.{leb}
-use lib.ListN.{length}
 use borrow.Author.Tests.{eq-eqb, ne-eqb, le-leb, lt-leb, lt-ltb, le-ltb}
-use Rattle.calendar.specs.Calendar.{hoursInQuarter}
-use Rattle.writer.specs.Sheet.{sheetKind, hourAt, hourCount, hoursFrom, hoursOf}
+use Rattle.writer.specs.Sheet.{sheetKind, hourAt, hoursFrom}
 use Rattle.writer.specs.SheetLaws.{hours-next, hours-end}
-use Rattle.writer.specs.Refusals.{every, headingHolds, kindsRise, hourKinds, kindsHold, hoursRise, sheetHolds, readingsHold, figuresFit, reportBytes, refusalOf}
+use Rattle.writer.specs.Refusals.{every, kindsRise, hourKinds, kindsHold, hoursRise, readingsHold, figuresFit}
 use Rattle.writer.specs.OnePass.{valuesRefusal, hourRefusal, hoursRefusal, earlier, inOrder, refusalFrom}
 use Rattle.writer.specs.declared.sheet.SheetHour.{SheetHour}
 
@@ -109,9 +107,9 @@ module _ (sheet : List ℕ) (n k : ℕ) where
     unfolding hoursRise
     rise-early h l = rw (hours-next sheet n k h, lt-leb _ _ l, hoursRise)
 
-    rise-late : k < n → from ≤ hourAt sheet k .hour → below ≤ hourAt sheet k .hour → hoursRise below from (hoursFrom sheet k (n - k)) ≡ false
+    rise-late : k < n → below ≤ hourAt sheet k .hour → hoursRise below from (hoursFrom sheet k (n - k)) ≡ false
     unfolding hoursRise
-    rise-late h l m = rw (hours-next sheet n k h, le-leb _ _ l, le-ltb _ _ m, hoursRise)
+    rise-late h m = rw (hours-next sheet n k h, le-ltb _ _ m, and-false (leb from (hourAt sheet k .hour)), hoursRise)
 
 unrising : (kinds : Bool) (values : ℕ) → 31 ≡ inOrder kinds false values
 unfolding inOrder
@@ -126,86 +124,25 @@ module _ (below : ℕ) (sheet : List ℕ) (n k from found : ℕ) where
   unfolding refusalFrom inOrder
   pass-kinds h e = rw (kinds-stop sheet n k h e)
 
-  pub pass-early : k < n → hourAt sheet k .hour < from → 31 ≡ refusalFrom below sheet k (n - k) from found
-  unfolding refusalFrom
-  pass-early h l = rw (rise-early sheet n k below from h l) (unrising _ _)
+  module _ {h : SheetHour} (e : h ≡ hourAt sheet k) where
+    pub pass-early : k < n → h .hour < from → 31 ≡ refusalFrom below sheet k (n - k) from found
+    unfolding refusalFrom
+    pass-early j l = rw (rise-early sheet n k below from j (rw e at l)) (unrising _ _)
 
-  pub pass-late : k < n → from ≤ hourAt sheet k .hour → below ≤ hourAt sheet k .hour → 31 ≡ refusalFrom below sheet k (n - k) from found
-  unfolding refusalFrom
-  pass-late h l m = rw (rise-late sheet n k below from h l m) (unrising _ _)
+    pub pass-late : k < n → below ≤ h .hour → 31 ≡ refusalFrom below sheet k (n - k) from found
+    unfolding refusalFrom
+    pass-late j m = rw (rise-late sheet n k below from j (rw e at m)) (unrising _ _)
 
-  pub pass-more : k < n → hourKinds sheet k ≡ true → from ≤ hourAt sheet k .hour → hourAt sheet k .hour < below
-      → refusalFrom below sheet (k + 1) (n - (k + 1)) (hourAt sheet k .hour + 1) (earlier found (hourRefusal (hourAt sheet k))) ≡ refusalFrom below sheet k (n - k) from found
-  unfolding refusalFrom
-  pass-more h e l m =
-      let a = kinds-next sheet n k h e in
-      let b = rise-next sheet n k below from h l m in
-      let d = ap hoursRefusal (hours-next sheet n k h) ∙ hours-first (hourAt sheet k) (hoursFrom sheet (k + 1) (n - (k + 1))) in
-      let f = earlier-assoc found (hourRefusal (hourAt sheet k)) (hoursRefusal (hoursFrom sheet (k + 1) (n - (k + 1)))) in
-      cc
+    pub pass-more : k < n → hourKinds sheet k ≡ true → from ≤ h .hour → h .hour < below
+        → refusalFrom below sheet (k + 1) (n - (k + 1)) (h .hour + 1) (earlier found (hourRefusal h)) ≡ refusalFrom below sheet k (n - k) from found
+    unfolding refusalFrom
+    pass-more j t l m =
+        let a = kinds-next sheet n k j t in
+        let b = rise-next sheet n k below from j (rw e at l) (rw e at m) in
+        let d = ap hoursRefusal (hours-next sheet n k j) ∙ hours-first (hourAt sheet k) (hoursFrom sheet (k + 1) (n - (k + 1))) in
+        let f = earlier-assoc found (hourRefusal (hourAt sheet k)) (hoursRefusal (hoursFrom sheet (k + 1) (n - (k + 1)))) in
+        rw e (cc)
 
   pub pass-end : n ≤ k → found ≡ refusalFrom below sheet k (n - k) from found
   unfolding refusalFrom inOrder hoursRise hoursRefusal every
   pass-end h = rw (kinds-end sheet n k h, hours-end sheet n k h) (earlier-first found 0 refl)
-
--- what the pass finds over all hours
-abbrev pub passed : ℕ → ℕ → List ℕ → ℕ
-passed year quarter sheet = refusalFrom (hoursInQuarter year quarter) sheet 0 (hourCount sheet) 0 0
-
--- 34 is tried last
-withRoom : ℕ → Bool → ℕ
-withRoom zero fits = elim fits [ false ↦ 34 | true ↦ 0 ]
-withRoom (suc found) fits = suc found
-
-module _ (year quarter : ℕ) (name sheet : List ℕ) (room : ℕ) where
-  pub heading-wrong : headingHolds year quarter name ≡ false → 31 ≡ refusalOf year quarter name sheet room
-  unfolding refusalOf sheetHolds
-  heading-wrong e = rw (e, sheetHolds, refusalOf)
-
-  pub words-wrong : headingHolds year quarter name ≡ true → (length sheet % 6 ≡ 0 → ⊥) → 31 ≡ refusalOf year quarter name sheet room
-  unfolding refusalOf sheetHolds
-  words-wrong e w = rw (e, ne-eqb _ _ w, sheetHolds, refusalOf)
-
-  module _ (e : headingHolds year quarter name ≡ true) (w : length sheet % 6 ≡ 0) where
-    shaped : sheetHolds year quarter name sheet ≡ (kindsHold sheet 0 (hourCount sheet) && hoursRise (hoursInQuarter year quarter) 0 (hoursOf sheet))
-    unfolding sheetHolds
-    shaped = rw (e, eq-eqb _ _ w, sheetHolds) (go (kindsHold sheet 0 (hourCount sheet)) _)
-      where
-        go : (a b : Bool) → _≡_ {A = Bool} (elim a [ false ↦ false | true ↦ b ]) (a && b)
-        go true b = refl
-        go false b = refl
-
-    told : refusalOf year quarter name sheet room ≡ withRoom (passed year quarter sheet) (leb (reportBytes (hourCount sheet)) room)
-    unfolding refusalOf refusalFrom inOrder hoursRefusal hoursOf earlier withRoom
-    told = rw (shaped, refusalOf) (go (kindsHold sheet 0 (hourCount sheet)) (hoursRise (hoursInQuarter year quarter) 0 (hoursOf sheet)) (every readingsHold (hoursOf sheet)) (every figuresFit (hoursOf sheet)))
-      where
-        fits : Bool
-        fits = leb (reportBytes (hourCount sheet)) room
-
-        go : (a b c d : Bool) →
-            _≡_ {A = ℕ} (elim (a && b) [ false ↦ 31 | true ↦ elim c [ false ↦ 32 | true ↦ elim d [ false ↦ 33 | true ↦ elim fits [ false ↦ 34 | true ↦ 0 ] ] ] ])
-            (withRoom (inOrder a b (valuesRefusal c d)) fits)
-        go false b c d = refl
-        go true false c d = refl
-        go true true false d = refl
-        go true true true false = refl
-        go true true true true = refl
-
-    pub found-told : (found : ℕ) → found ≡ passed year quarter sheet → (found ≡ 0 → ⊥) → found ≡ refusalOf year quarter name sheet room
-    unfolding withRoom
-    found-told zero f h = absurd (h refl)
-    found-told (suc found) f h = sym (told ∙ rw (← f))
-
-    pub room-told : passed year quarter sheet ≡ 0 → (fits : Bool) → leb (reportBytes (hourCount sheet)) room ≡ fits
-        → _≡_ {A = ℕ} (elim fits [ false ↦ 34 | true ↦ 0 ]) (refusalOf year quarter name sheet room)
-    unfolding withRoom
-    room-told f fits h = sym (told ∙ rw (f, h))
-
-    pub none-found : passed year quarter sheet ≡ 0 → sheetHolds year quarter name sheet ≡ true
-    unfolding refusalFrom inOrder hoursOf
-    none-found f = shaped ∙ go (kindsHold sheet 0 (hourCount sheet)) (hoursRise (hoursInQuarter year quarter) 0 (hoursOf sheet)) _ f
-      where
-        go : (a b : Bool) (values : ℕ) → inOrder a b values ≡ 0 → (a && b) ≡ true
-        go false b values h = absurd (omega arith)
-        go true false values h = absurd (omega arith)
-        go true true values h = refl

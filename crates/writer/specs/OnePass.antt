@@ -1,5 +1,5 @@
--- The refusals 31 to 33 as one pass over the hours finds them. The contracts inside the writer name these; proofs/OnePass.antt proves
--- that they give what refusalOf gives. Assumes nothing.
+-- The refusals 31 to 33 as one pass over the hours finds them. Only contracts inside the writer name these; proofs/FirstRefusal.antt
+-- proves that the pass gives what refusalOf says. Assumes nothing.
 use Prim.Native.Nat.{ℕ, zero, suc, min}
 use mathlib.Core.List.{List}
 use mathlib.Core.Bool.{Bool, true, false}
@@ -27,7 +27,7 @@ earlier (suc a) (suc b) = suc (min a b)
 unfoldable pub inOrder : Bool → Bool → ℕ → ℕ
 inOrder kinds rises values = elim kinds [ false ↦ 31 | true ↦ elim rises [ false ↦ 31 | true ↦ values ] ]
 
--- of so many hours, from hour k on, where the hours before it allow the hours from `from` on and were found to have a refusal
+-- of so many hours, from hour k on: the hours before it leave those from `from` on, and gave the refusal `found`
 unfoldable pub refusalFrom : ℕ → List ℕ → ℕ → ℕ → ℕ → ℕ → ℕ
 refusalFrom below sheet k left from found =
     inOrder (kindsHold sheet k left) (hoursRise below from (hoursFrom sheet k left)) (earlier found (hoursRefusal (hoursFrom sheet k left)))

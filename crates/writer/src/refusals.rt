@@ -39,6 +39,7 @@ fn heading_holds(year: u64, quarter: u64, name: &[u8]) -> bool
     columns::all_printable(name)
 }
 
+// Whether the kinds of the six words of the k-th hour are 0 to 5.
 fn kinds_hold(sheet: &[u32], k: usize) -> bool
     requires { ⌜ 6 * k + 6 ≤ length (now sheet) ⌝ }
     ensures { λ r. ⌜ r ≡ hourKinds (now (sheet .entry)) k ⌝ }

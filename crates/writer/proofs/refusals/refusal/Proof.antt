@@ -1,12 +1,12 @@
 -- `writer::refusals::refusal` meets its contract: what one pass over the hours finds is what the tests find in their order.
 -- Assumes nothing.
 use mathlib.Core.Path.{_≡_, sym, _∙_}
-use mathlib.Core.Bool.{true, false}
+use mathlib.Core.Bool.{true}
 use borrow.Author.Needs.{needs}
-use borrow.Author.Tests.{not-true, not-false, le-leb, lt-leb}
+use borrow.Author.Tests.{not-true, not-false}
 use Rattle.writer.specs.Refusals.{headingHolds}
 use Rattle.writer.specs.RefusalLaws.{heading-holds, sheet-holds, hour-count}
-use Rattle.writer.proofs.OnePass.{passed, heading-wrong, words-wrong, found-told, room-told, none-found}
+use Rattle.writer.proofs.FirstRefusal.{passed, heading-wrong, words-wrong, found-told, room-short, room-enough, none-found}
 use Rattle.writer.proofs.refusals.refusal.Statement.{statement}
 use Rattle.writer.proofs.refusals.refusal.Tie as tie
 
@@ -46,13 +46,13 @@ returns-4 : tie.Need-returns-4
 returns-4 c =
     let f = c .before .before in
     let i = f .before .before .before in
-    room-told _ _ _ _ _ (headed (i .before)) (i .if2 .left) (sym (given (f .before)) ∙ f .if3 .left) false (lt-leb _ _ (rw (c .before .report-bytes .ensures) at (c .if4 .taken)))
+    room-short _ _ _ _ _ (headed (i .before)) (i .if2 .left) (sym (given (f .before)) ∙ f .if3 .left) (c .before .report-bytes .ensures) (c .if4 .taken)
 
 returns-5 : tie.Need-returns-5
 returns-5 c =
     let f = c .before .before in
     let i = f .before .before .before in
-    room-told _ _ _ _ _ (headed (i .before)) (i .if2 .left) (sym (given (f .before)) ∙ f .if3 .left) true (le-leb _ _ (rw (c .before .report-bytes .ensures) at (c .if4 .left)))
+    room-enough _ _ _ _ _ (headed (i .before)) (i .if2 .left) (sym (given (f .before)) ∙ f .if3 .left) (c .before .report-bytes .ensures) (c .if4 .left)
 
 pub refusal-spec : {M : Type 1} → statement M
 refusal-spec =

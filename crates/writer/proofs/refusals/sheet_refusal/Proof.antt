@@ -1,13 +1,12 @@
 -- `writer::refusals::sheet_refusal` meets its contract: the hours from hour k on, with what was found before, give what all give.
 -- Assumes nothing.
 use Prim.Native.Nat.{_-_, _≤_}
-use mathlib.Core.Path.{_≡_, sym, ap, _∙_}
+use mathlib.Core.Path.{_≡_, sym, _∙_}
 use native.Mathlib.Omega.{arith}
 use borrow.Author.Needs.{needs}
 use borrow.Author.Tests.{not-true, not-false}
 use Rattle.writer.specs.Sheet.{hourCount}
 use Rattle.writer.specs.OnePass.{refusalFrom}
-use Rattle.writer.specs.declared.sheet.SheetHour.{SheetHour}
 use Rattle.writer.proofs.OnePass.{pass-whole, pass-kinds, pass-early, pass-late, pass-more, pass-end}
 use Rattle.writer.proofs.refusals.sheet_refusal.Statement.{statement}
 use Rattle.writer.proofs.refusals.sheet_refusal.Tie as tie
@@ -34,16 +33,15 @@ hour-at-requires c κs = omega arith
 
 returns-2 : tie.Need-returns-2 Inv-loop μ-loop
 returns-2 c =
-    let l = c .before .before .before .before .before .before .loop in
-    let e = ap (λ (h : SheetHour). h .hour) (c .before .before .hour-at .ensures) in
-    pass-early _ _ _ (l .k) (l .from) (l .found) (omega arith) (omega arith) ∙ l .inv .1
+    let b = c .before .before in
+    let l = b .before .before .before .before .loop in
+    pass-early _ _ _ (l .k) (l .from) (l .found) (b .hour-at .ensures) (omega arith) (omega arith) ∙ l .inv .1
 
 returns-3 : tie.Need-returns-3 Inv-loop μ-loop
 returns-3 c =
     let b = c .before .before .before .before in
     let l = b .before .before .before .before .loop in
-    let e = ap (λ (h : SheetHour). h .hour) (b .hour-at .ensures) in
-    pass-late _ _ _ (l .k) (l .from) (l .found) (omega arith) (omega arith) (omega arith) ∙ l .inv .1
+    pass-late _ _ _ (l .k) (l .from) (l .found) (b .hour-at .ensures) (omega arith) (c .if3 .taken) ∙ l .inv .1
 
 hour-refusal-requires : tie.Need-hour-refusal-requires Inv-loop μ-loop
 hour-refusal-requires c κs = search needs
@@ -64,14 +62,13 @@ loop-again : tie.Need-loop-again Inv-loop μ-loop
 loop-again c =
     let s = c .before .before in
     let i = s .before in
-    let b = i .before .before .before .before in
+    let j = i .before .before in
+    let b = j .before .before in
     let l = b .before .before .before .before .loop in
-    let h = b .hour-at .ensures in
-    let e = ap (λ (h : SheetHour). h .hour) h in
     let t = sym (b .before .before .kinds-hold .ensures) ∙ not-false _ (b .before .if1 .left) in (
       omega arith,
-      rw (c .before .earlier .ensures, s .hour-refusal .ensures, h)
-          (pass-more _ _ _ (l .k) (l .from) (l .found) (omega arith) t (omega arith) (omega arith) ∙ l .inv .1),
+      rw (c .before .earlier .ensures, s .hour-refusal .ensures)
+          (pass-more _ _ _ (l .k) (l .from) (l .found) (b .hour-at .ensures) (omega arith) t (j .if2 .left) (i .if3 .left) ∙ l .inv .1),
     )
 
 returns-4 : tie.Need-returns-4 Inv-loop μ-loop

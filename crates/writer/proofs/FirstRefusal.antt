@@ -1,0 +1,79 @@
+-- What the pass over the hours finds, and 34 after it, is what refusalOf gives. Assumes nothing.
+use Prim.Native.Nat.{ℕ, zero, suc, _%_, _≤_, _<_}
+use mathlib.Core.Path.{_≡_, refl, sym, _∙_}
+use mathlib.Core.List.{List}
+use mathlib.Core.Bool.{Bool, true, false, _&&_}
+use native.Mathlib.Omega.{arith}
+use lib.Dec.{leb}
+use lib.ListN.{length}
+use borrow.Author.Tests.{eq-eqb, ne-eqb, le-leb, lt-leb}
+use Rattle.calendar.specs.Calendar.{hoursInQuarter}
+use Rattle.writer.specs.Sheet.{hourCount, hoursOf}
+use Rattle.writer.specs.Refusals.{every, headingHolds, kindsHold, hoursRise, sheetHolds, readingsHold, figuresFit, reportBytes, refusalOf}
+use Rattle.writer.specs.OnePass.{valuesRefusal, hoursRefusal, earlier, inOrder, refusalFrom}
+
+-- what the pass finds over all hours
+abbrev pub passed : ℕ → ℕ → List ℕ → ℕ
+passed year quarter sheet = refusalFrom (hoursInQuarter year quarter) sheet 0 (hourCount sheet) 0 0
+
+-- 34 is tried last
+withRoom : ℕ → Bool → ℕ
+withRoom zero fits = elim fits [ false ↦ 34 | true ↦ 0 ]
+withRoom (suc found) fits = suc found
+
+module _ (year quarter : ℕ) (name sheet : List ℕ) (room : ℕ) where
+  pub heading-wrong : headingHolds year quarter name ≡ false → 31 ≡ refusalOf year quarter name sheet room
+  unfolding refusalOf sheetHolds
+  heading-wrong e = rw (e, sheetHolds, refusalOf)
+
+  pub words-wrong : headingHolds year quarter name ≡ true → (length sheet % 6 ≡ 0 → ⊥) → 31 ≡ refusalOf year quarter name sheet room
+  unfolding refusalOf sheetHolds
+  words-wrong e w = rw (e, ne-eqb _ _ w, sheetHolds, refusalOf)
+
+  module _ (e : headingHolds year quarter name ≡ true) (w : length sheet % 6 ≡ 0) where
+    shaped : sheetHolds year quarter name sheet ≡ (kindsHold sheet 0 (hourCount sheet) && hoursRise (hoursInQuarter year quarter) 0 (hoursOf sheet))
+    unfolding sheetHolds
+    shaped = rw (e, eq-eqb _ _ w, sheetHolds) (go (kindsHold sheet 0 (hourCount sheet)) _)
+      where
+        go : (a b : Bool) → _≡_ {A = Bool} (elim a [ false ↦ false | true ↦ b ]) (a && b)
+        go true b = refl
+        go false b = refl
+
+    told : refusalOf year quarter name sheet room ≡ withRoom (passed year quarter sheet) (leb (reportBytes (hourCount sheet)) room)
+    unfolding refusalOf refusalFrom inOrder hoursRefusal hoursOf earlier withRoom
+    told = rw (shaped, refusalOf) (go (kindsHold sheet 0 (hourCount sheet)) (hoursRise (hoursInQuarter year quarter) 0 (hoursOf sheet)) (every readingsHold (hoursOf sheet)) (every figuresFit (hoursOf sheet)))
+      where
+        fits : Bool
+        fits = leb (reportBytes (hourCount sheet)) room
+
+        go : (a b c d : Bool) →
+            _≡_ {A = ℕ} (elim (a && b) [ false ↦ 31 | true ↦ elim c [ false ↦ 32 | true ↦ elim d [ false ↦ 33 | true ↦ elim fits [ false ↦ 34 | true ↦ 0 ] ] ] ])
+            (withRoom (inOrder a b (valuesRefusal c d)) fits)
+        go false b c d = refl
+        go true false c d = refl
+        go true true false d = refl
+        go true true true false = refl
+        go true true true true = refl
+
+    pub found-told : (found : ℕ) → found ≡ passed year quarter sheet → (found ≡ 0 → ⊥) → found ≡ refusalOf year quarter name sheet room
+    unfolding withRoom
+    found-told zero f h = absurd (h refl)
+    found-told (suc found) f h = sym (told ∙ rw (← f))
+
+    module _ {bytes : ℕ} (f : passed year quarter sheet ≡ 0) (b : bytes ≡ reportBytes (hourCount sheet)) where
+      pub room-short : room < bytes → 34 ≡ refusalOf year quarter name sheet room
+      unfolding withRoom
+      room-short h = sym (told ∙ rw (f, lt-leb _ _ (rw b at h)))
+
+      pub room-enough : bytes ≤ room → 0 ≡ refusalOf year quarter name sheet room
+      unfolding withRoom
+      room-enough h = sym (told ∙ rw (f, le-leb _ _ (rw b at h)))
+
+    pub none-found : passed year quarter sheet ≡ 0 → sheetHolds year quarter name sheet ≡ true
+    unfolding refusalFrom inOrder hoursOf
+    none-found f = shaped ∙ go (kindsHold sheet 0 (hourCount sheet)) (hoursRise (hoursInQuarter year quarter) 0 (hoursOf sheet)) _ f
+      where
+        go : (a b : Bool) (values : ℕ) → inOrder a b values ≡ 0 → (a && b) ≡ true
+        go false b values h = absurd (omega arith)
+        go true false values h = absurd (omega arith)
+        go true true values h = refl
