@@ -1,17 +1,17 @@
 -- Laws of the loops that read: one byte further, a byte that ends them, and the end.
 use Prim.Native.Nat.{ℕ, suc, _+_, _*_, _-_, _≤_, _<_, _^_}
-use mathlib.Core.Path.{_≡_, refl, ap, _∙_}
+use mathlib.Core.Path.{_≡_, refl, sym, ap, _∙_}
 use mathlib.Core.List.{List, _∷_}
 use mathlib.Core.Bool.{Bool, true, false, _&&_}
 use native.Mathlib.Omega.{arith}
 use native.Mathlib.Nat.{add-sub-cancel-left, pow-suc, one-le-pow, mul-le-mul-left, mul-le-mul-right, pow-le-pow-right}
 use native.Mathlib.Numerals.{add-one}
-use lib.Dec.{leb, lit<}
+use lib.Dec.{leb, eqb, lit<}
 use lib.Pow.{pow-add}
 use lib.ListN.{length, take, drop, getD, length-drop, drop-of-length-le}
 use lib.Seq.{drop-cons, take-all, length-take-le}
 use borrow.Author.Tests.{le-leb, lt-leb, eq-eqb, ne-eqb}
-use Rattle.columns.specs.Bytes.{isBlank, isDigit, all, same}
+use Rattle.columns.specs.Bytes.{isBlank, isDigit, isPrintable, all, same}
 use Rattle.columns.specs.Number.{digitsFrom, wholeOf, decimalsBehind, fixedOf}
 use Rattle.columns.specs.Columns.{columns}
 use Rattle.columns.specs.NumberLaws.{whole-bound}
@@ -53,13 +53,29 @@ module _ (l : List ℕ) (i : ℕ) (inside : i < length l) where
   unfolding wholeOf
   whole-digits e = rw (drop-cons l i 0 inside, ne-eqb (getD l i 0) 32 e, wholeOf)
 
-  pub same-one : (m : List ℕ) → i < length m → getD l i 0 ≡ getD m i 0 → same (drop (i + 1) l) (drop (i + 1) m) ≡ same (drop i l) (drop i m)
+  -- without a way out: what was found so far, and what is left
+  pub same-one : (m : List ℕ) → i < length m → (fine : Bool) →
+      (fine && eqb (getD l i 0) (getD m i 0)) && same (drop (i + 1) l) (drop (i + 1) m) ≡ fine && same (drop i l) (drop i m)
   unfolding same
-  same-one m h e = rw (drop-cons l i 0 inside, drop-cons m i 0 h, add-one i, eq-eqb (getD l i 0) (getD m i 0) e, same)
+  same-one m h fine =
+      rw (drop-cons l i 0 inside, drop-cons m i 0 h, add-one i) (go fine (eqb (getD l i 0) (getD m i 0)) (same (drop (suc i) l) (drop (suc i) m)))
+    where
+      go : (f a r : Bool) → (f && a) && r ≡ f && elim a [ true ↦ r | false ↦ false ]
+      go true true r = refl
+      go true false r = refl
+      go false a r = refl
 
-  pub same-stop : (m : List ℕ) → i < length m → (getD l i 0 ≡ getD m i 0 → ⊥) → same (drop i l) (drop i m) ≡ false
-  unfolding same
-  same-stop m h e = rw (drop-cons l i 0 inside, drop-cons m i 0 h, ne-eqb (getD l i 0) (getD m i 0) e, same)
+  pub printable-one : (fine : Bool) →
+      ((fine && leb 32 (getD l i 0)) && leb (getD l i 0) 126) && all isPrintable (drop (i + 1) l) ≡ fine && all isPrintable (drop i l)
+  unfolding all
+  printable-one fine =
+      rw (drop-cons l i 0 inside, add-one i) (go fine (leb 32 (getD l i 0)) (leb (getD l i 0) 126) (all isPrintable (drop (suc i) l)))
+    where
+      go : (f a b r : Bool) → ((f && a) && b) && r ≡ f && elim (a && b) [ true ↦ r | false ↦ false ]
+      go true true true r = refl
+      go true true false r = refl
+      go true false b r = refl
+      go false a b r = refl
 
 module _ (l : List ℕ) (i : ℕ) (past : length l ≤ i) where
   pub all-end : (p : ℕ → Bool) → all p (drop i l) ≡ true
@@ -77,6 +93,11 @@ module _ (l : List ℕ) (i : ℕ) (past : length l ≤ i) where
   pub same-end : (m : List ℕ) → length m ≤ i → same (drop i l) (drop i m) ≡ true
   unfolding same
   same-end m h = rw (drop-of-length-le l past, drop-of-length-le m h)
+
+-- what was found stands where nothing is left
+pub found-end : (fine rest : Bool) → rest ≡ true → fine ≡ fine && rest
+found-end true rest e = sym e
+found-end false rest e = refl
 
 -- lists of other lengths are not the same
 pub same-length : (l m : List ℕ) → (length l ≡ length m → ⊥) → same l m ≡ false

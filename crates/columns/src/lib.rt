@@ -14,37 +14,34 @@ pub enum Field {
     Number(u64),
 }
 
+// These two look at every byte, whatever was found, so that the compiler can take many at a time.
+
 pub fn same_bytes(a: &[u8], b: &[u8]) -> bool
     ensures { λ r. ⌜ r ≡ same (now (a .entry)) (now (b .entry)) ⌝ }
 {
     if a.len() != b.len() {
         return false;
     }
+    let mut fine = true;
     let mut i = 0;
     while i < a.len() {
-        if a[i] != b[i] {
-            return false;
-        }
+        fine = fine & (a[i] == b[i]);
         i += 1;
     }
-    true
+    fine
 }
 
 pub fn all_printable(bytes: &[u8]) -> bool
     ensures { λ r. ⌜ r ≡ all isPrintable (now (bytes .entry)) ⌝ }
 {
+    let mut fine = true;
     let mut i = 0;
     while i < bytes.len() {
         let b = bytes[i];
-        if b < 32 {
-            return false;
-        }
-        if 126 < b {
-            return false;
-        }
+        fine = fine & (32 <= b) & (b <= 126);
         i += 1;
     }
-    true
+    fine
 }
 
 pub fn all_blank(bytes: &[u8]) -> bool

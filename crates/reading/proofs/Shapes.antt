@@ -113,24 +113,6 @@ module _ (t : RecordType) (bs : List ℕ) (fine : shapeFault t (firstLine bs) �
   pub line-fine : shapeFault t (take long bs) ≡ 0
   line-fine = rw (← line-known) fine
 
--- bytes looked at one by one, without a way out
-pub printable-end : (l : List ℕ) (i : ℕ) → length l ≤ i → (fine : Bool) → fine ≡ fine && all isPrintable (drop i l)
-unfolding all
-printable-end l i h true = rw (drop-of-length-le l h)
-printable-end l i h false = refl
-
-pub printable-one : (l : List ℕ) (i : ℕ) → i < length l → (fine : Bool) →
-    ((fine && leb 32 (getD l i 0)) && leb (getD l i 0) 126) && all isPrintable (drop (i + 1) l) ≡ fine && all isPrintable (drop i l)
-unfolding all
-printable-one l i h fine =
-    rw (drop-cons l i 0 h, add-one i) (go fine (leb 32 (getD l i 0)) (leb (getD l i 0) 126) (all isPrintable (drop (suc i) l)))
-  where
-    go : (f a b r : Bool) → ((f && a) && b) && r ≡ f && elim (a && b) [ true ↦ r | false ↦ false ]
-    go true true true r = refl
-    go true true false r = refl
-    go true false b r = refl
-    go false a b r = refl
-
 -- printable bytes with byte 10 behind them are a line
 alone : (long : ℕ) (bs : List ℕ) → getD bs long 0 ≡ 10 → all isPrintable (take long bs) ≡ true → firstLine bs ≡ take long bs
 unfolding firstLine

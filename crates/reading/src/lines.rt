@@ -4,7 +4,6 @@ use edr::layout::RecordType;
 ghost use mathlib.Core.Path.{_≡_};
 ghost use lib.ListN.{length};
 ghost use Rattle.edr.specs.Layout.{codeOf};
-ghost use Rattle.columns.specs.Bytes.{isPrintable, all};
 ghost use Rattle.columns.specs.Written.{digitsOf};
 ghost use Rattle.reading.specs.Lines.{firstLine};
 ghost use Rattle.reading.specs.LineFaults.{typeIs, shapeFault};
@@ -28,12 +27,18 @@ fn line_end(rest: &[u8]) -> usize
 fn type_digits(t: RecordType) -> [u8; 3]
     ensures { λ r. ⌜ r ≡ digitsOf 3 (codeOf t) ⌝ }
 {
-    let code = layout::type_code(t);
-    [
-        48 + (code / 10 / 10 % 10) as u8,
-        48 + (code / 10 % 10) as u8,
-        48 + (code % 10) as u8,
-    ]
+    match t {
+        RecordType::Facility => [49, 48, 48],
+        RecordType::So2Concentration => [50, 48, 48],
+        RecordType::NoxConcentration => [50, 48, 49],
+        RecordType::Co2Concentration => [50, 48, 50],
+        RecordType::VolumetricFlow => [50, 50, 48],
+        RecordType::Operation => [51, 48, 48],
+        RecordType::QuarterTotals => [51, 48, 49],
+        RecordType::So2Mass => [51, 49, 48],
+        RecordType::NoxRate => [51, 50, 48],
+        RecordType::Co2Mass => [51, 51, 48],
+    }
 }
 
 pub fn type_is(rest: &[u8], t: RecordType) -> bool
@@ -46,20 +51,6 @@ pub fn type_is(rest: &[u8], t: RecordType) -> bool
     columns::same_bytes(&rest[..3], &digits)
 }
 
-// Whether every byte is printable. Every byte is looked at, whatever was found, so that the compiler can take many at a time.
-fn all_printable(bytes: &[u8]) -> bool
-    ensures { λ r. ⌜ r ≡ all isPrintable (now (bytes .entry)) ⌝ }
-{
-    let mut fine = true;
-    let mut i = 0;
-    while i < bytes.len() {
-        let b = bytes[i];
-        fine = fine & (32 <= b) & (b <= 126);
-        i += 1;
-    }
-    fine
-}
-
 // Whether what is left begins with so many printable bytes and byte 10.
 fn is_line(rest: &[u8], long: usize) -> bool
     ensures { λ r. ⌜ r ≡ isLine long (now (rest .entry)) ⌝ }
@@ -70,7 +61,7 @@ fn is_line(rest: &[u8], long: usize) -> bool
     if rest[long] != 10 {
         return false;
     }
-    all_printable(&rest[..long])
+    columns::all_printable(&rest[..long])
 }
 
 // The fault of the type, the length or a byte (2, 3, 4), or 0.
@@ -88,7 +79,7 @@ pub fn shape_fault(rest: &[u8], t: RecordType) -> u64
     if end != long {
         return 3;
     }
-    if !all_printable(&rest[..end]) {
+    if !columns::all_printable(&rest[..end]) {
         return 4;
     }
     0

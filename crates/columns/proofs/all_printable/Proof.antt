@@ -1,36 +1,25 @@
--- Every byte is printable: what is left from place i on decides as the whole does.
+-- Every byte is printable: what was found of the bytes passed, and what is left, decide as the whole does.
 use Prim.Native.Nat.{_-_, _≤_}
-use mathlib.Core.Path.{_≡_, refl, sym, _∙_}
+use mathlib.Core.Path.{_≡_, refl, _∙_}
+use mathlib.Core.Bool.{_&&_}
 use native.Mathlib.Omega.{arith}
-use lib.ListN.{length, drop, getD}
+use lib.ListN.{length, drop}
 use Rattle.columns.specs.Bytes.{isPrintable, all}
-use Rattle.columns.proofs.Reading.{within, below, above, all-one, all-stop, all-end}
+use Rattle.columns.proofs.Reading.{printable-one, all-end, found-end}
 use Rattle.columns.proofs.all_printable.Statement.{statement}
 use Rattle.columns.proofs.all_printable.Tie as tie
 
 abbrev Inv-loop : tie.InvT-loop
-Inv-loop bytes i₀ i = (i ≤ length bytes) × (all isPrintable (drop i bytes) ≡ all isPrintable bytes)
+Inv-loop bytes fine₀ i₀ fine i = (i ≤ length bytes) × (fine && all isPrintable (drop i bytes) ≡ all isPrintable bytes)
 
 abbrev μ-loop : tie.MeasureT-loop
-μ-loop bytes i₀ i = length bytes - i
+μ-loop bytes fine₀ i₀ fine i = length bytes - i
 
 loop-holds : tie.Need-loop-holds Inv-loop μ-loop
 loop-holds c = (omega arith, refl)
 
 shared-slice-read-b : tie.Need-shared-slice-read-b Inv-loop μ-loop
 shared-slice-read-b c = omega arith
-
-returns : tie.Need-returns Inv-loop μ-loop
-returns c =
-    let l = c .before .before .before .loop in
-    let bytes = c .before .before .before .before .args .bytes .now in
-    sym (sym (l .inv .1) ∙ all-stop bytes (l .i) (omega arith) isPrintable (below 32 126 (getD bytes (l .i) 0) (omega arith)))
-
-returns-2 : tie.Need-returns-2 Inv-loop μ-loop
-returns-2 c =
-    let l = c .before .before .before .before .loop in
-    let bytes = c .before .before .before .before .before .args .bytes .now in
-    sym (sym (l .inv .1) ∙ all-stop bytes (l .i) (omega arith) isPrintable (above 32 126 (getD bytes (l .i) 0) (omega arith) (omega arith)))
 
 add-i : tie.Need-add-i Inv-loop μ-loop
 add-i c = omega arith
@@ -40,27 +29,17 @@ loop-less c = omega arith
 
 loop-again : tie.Need-loop-again Inv-loop μ-loop
 loop-again c =
-    let l = c .before .before .before .before .loop in
-    let bytes = c .before .before .before .before .before .args .bytes .now in
-    (omega arith, all-one bytes (l .i) (omega arith) isPrintable (within 32 126 (getD bytes (l .i) 0) (omega arith) (omega arith)) ∙ l .inv .1)
+    let l = c .before .before .loop in
+    let bytes = c .before .before .before .args .bytes .now in
+    (omega arith, printable-one bytes (l .i) (omega arith) (l .fine) ∙ l .inv .1)
 
-returns-3 : tie.Need-returns-3 Inv-loop μ-loop
-returns-3 c =
+returns : tie.Need-returns Inv-loop μ-loop
+returns c =
     let l = c .before .loop in
     let bytes = c .before .before .args .bytes .now in
-    sym (sym (l .inv .1) ∙ all-end bytes (l .i) (omega arith) isPrintable)
+    found-end (l .fine) (all isPrintable (drop (l .i) bytes)) (all-end bytes (l .i) (omega arith) isPrintable) ∙ l .inv .1
 
 pub all-printable-spec : {M : Type 1} → statement M
 all-printable-spec =
     tie.close
-    (tie.spec
-    Inv-loop
-    μ-loop
-    loop-holds
-    shared-slice-read-b
-    returns
-    returns-2
-    add-i
-    loop-less
-    loop-again
-    returns-3)
+    (tie.spec Inv-loop μ-loop loop-holds shared-slice-read-b add-i loop-less loop-again returns)

@@ -1,18 +1,19 @@
--- Two lists of bytes of one length are compared: what is left of them from place i on decides as the whole does.
+-- Two lists of bytes of one length are compared: what was found, and what is left of them from place i on, decide as the whole does.
 use Prim.Native.Nat.{_-_, _≤_}
 use mathlib.Core.Path.{_≡_, refl, sym, _∙_}
+use mathlib.Core.Bool.{_&&_}
 use native.Mathlib.Omega.{arith}
 use lib.ListN.{length, drop}
 use Rattle.columns.specs.Bytes.{same}
-use Rattle.columns.proofs.Reading.{same-one, same-stop, same-end, same-length}
+use Rattle.columns.proofs.Reading.{same-one, same-end, same-length, found-end}
 use Rattle.columns.proofs.same_bytes.Statement.{statement}
 use Rattle.columns.proofs.same_bytes.Tie as tie
 
 abbrev Inv-loop : tie.InvT-loop
-Inv-loop a b i₀ i = (i ≤ length a) × (same (drop i a) (drop i b) ≡ same a b)
+Inv-loop a b fine₀ i₀ fine i = (i ≤ length a) × (fine && same (drop i a) (drop i b) ≡ same a b)
 
 abbrev μ-loop : tie.MeasureT-loop
-μ-loop a b i₀ i = length a - i
+μ-loop a b fine₀ i₀ fine i = length a - i
 
 returns : tie.Need-returns Inv-loop μ-loop
 returns c =
@@ -22,17 +23,11 @@ returns c =
 loop-holds : tie.Need-loop-holds Inv-loop μ-loop
 loop-holds c = (omega arith, refl)
 
-shared-slice-read-if2 : tie.Need-shared-slice-read-if2 Inv-loop μ-loop
-shared-slice-read-if2 c = omega arith
+shared-slice-read-fine : tie.Need-shared-slice-read-fine Inv-loop μ-loop
+shared-slice-read-fine c = omega arith
 
-shared-slice-read-if2-2 : tie.Need-shared-slice-read-if2-2 Inv-loop μ-loop
-shared-slice-read-if2-2 c = omega arith
-
-returns-2 : tie.Need-returns-2 Inv-loop μ-loop
-returns-2 c =
-    let l = c .before .before .before .before .loop in
-    let x = c .before .before .before .before .before .before .args in
-    sym (sym (l .inv .1) ∙ same-stop (x .a .now) (l .i) (omega arith) (x .b .now) (omega arith) (λ e. omega arith))
+shared-slice-read-fine-2 : tie.Need-shared-slice-read-fine-2 Inv-loop μ-loop
+shared-slice-read-fine-2 c = omega arith
 
 add-i : tie.Need-add-i Inv-loop μ-loop
 add-i c = omega arith
@@ -42,15 +37,15 @@ loop-less c = omega arith
 
 loop-again : tie.Need-loop-again Inv-loop μ-loop
 loop-again c =
-    let l = c .before .before .before .before .loop in
-    let x = c .before .before .before .before .before .before .args in
-    (omega arith, same-one (x .a .now) (l .i) (omega arith) (x .b .now) (omega arith) (omega arith) ∙ l .inv .1)
+    let l = c .before .before .before .loop in
+    let x = c .before .before .before .before .before .args in
+    (omega arith, same-one (x .a .now) (l .i) (omega arith) (x .b .now) (omega arith) (l .fine) ∙ l .inv .1)
 
-returns-3 : tie.Need-returns-3 Inv-loop μ-loop
-returns-3 c =
+returns-2 : tie.Need-returns-2 Inv-loop μ-loop
+returns-2 c =
     let l = c .before .loop in
     let x = c .before .before .before .args in
-    sym (sym (l .inv .1) ∙ same-end (x .a .now) (l .i) (omega arith) (x .b .now) (omega arith))
+    found-end (l .fine) (same (drop (l .i) (x .a .now)) (drop (l .i) (x .b .now))) (same-end (x .a .now) (l .i) (omega arith) (x .b .now) (omega arith)) ∙ l .inv .1
 
 pub same-bytes-spec : {M : Type 1} → statement M
 same-bytes-spec =
@@ -60,10 +55,9 @@ same-bytes-spec =
     μ-loop
     returns
     loop-holds
-    shared-slice-read-if2
-    shared-slice-read-if2-2
-    returns-2
+    shared-slice-read-fine
+    shared-slice-read-fine-2
     add-i
     loop-less
     loop-again
-    returns-3)
+    returns-2)

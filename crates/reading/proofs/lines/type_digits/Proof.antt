@@ -1,36 +1,100 @@
--- The three digits of a record type, from its code.
--- Assumes nothing.
+-- The three digits of a record type, type by type. Assumes nothing.
 use Rattle.columns.specs.Written.{digitsOf}
 use borrow.Author.Needs.{needs}
 use Rattle.reading.proofs.lines.type_digits.Statement.{statement}
 use Rattle.reading.proofs.lines.type_digits.Tie as tie
 
-type-code-requires : tie.Need-type-code-requires
-type-code-requires c κs = search needs
+enum-told : tie.Need-enum-told
+enum-told c = search needs
 
-cast-t6 : tie.Need-cast-t6
-cast-t6 c = search needs
+enum-told-2 : tie.Need-enum-told-2
+enum-told-2 c = search needs
 
-add-t7 : tie.Need-add-t7
-add-t7 c = search needs
+enum-told-3 : tie.Need-enum-told-3
+enum-told-3 c = search needs
 
-cast-t10 : tie.Need-cast-t10
-cast-t10 c = search needs
+enum-told-4 : tie.Need-enum-told-4
+enum-told-4 c = search needs
 
-add-t11 : tie.Need-add-t11
-add-t11 c = search needs
+enum-told-5 : tie.Need-enum-told-5
+enum-told-5 c = search needs
 
-cast-t13 : tie.Need-cast-t13
-cast-t13 c = search needs
+enum-told-6 : tie.Need-enum-told-6
+enum-told-6 c = search needs
 
-add-t14 : tie.Need-add-t14
-add-t14 c = search needs
+enum-told-7 : tie.Need-enum-told-7
+enum-told-7 c = search needs
+
+enum-told-8 : tie.Need-enum-told-8
+enum-told-8 c = search needs
+
+enum-told-9 : tie.Need-enum-told-9
+enum-told-9 c = search needs
+
+enum-told-10 : tie.Need-enum-told-10
+enum-told-10 c = search needs
 
 returns : tie.Need-returns
 unfolding digitsOf
-returns c = rw (c .type-code .ensures)
+returns c = rw (c .enum-told .given .1)
+
+returns-2 : tie.Need-returns-2
+unfolding digitsOf
+returns-2 c = rw (c .enum-told2 .given .1)
+
+returns-3 : tie.Need-returns-3
+unfolding digitsOf
+returns-3 c = rw (c .enum-told3 .given .1)
+
+returns-4 : tie.Need-returns-4
+unfolding digitsOf
+returns-4 c = rw (c .enum-told4 .given .1)
+
+returns-5 : tie.Need-returns-5
+unfolding digitsOf
+returns-5 c = rw (c .enum-told5 .given .1)
+
+returns-6 : tie.Need-returns-6
+unfolding digitsOf
+returns-6 c = rw (c .enum-told6 .given .1)
+
+returns-7 : tie.Need-returns-7
+unfolding digitsOf
+returns-7 c = rw (c .enum-told7 .given .1)
+
+returns-8 : tie.Need-returns-8
+unfolding digitsOf
+returns-8 c = rw (c .enum-told8 .given .1)
+
+returns-9 : tie.Need-returns-9
+unfolding digitsOf
+returns-9 c = rw (c .enum-told9 .given .1)
+
+returns-10 : tie.Need-returns-10
+unfolding digitsOf
+returns-10 c = rw (c .enum-told10 .given .1)
 
 pub type-digits-spec : {M : Type 1} → statement M
 type-digits-spec =
     tie.close
-    (tie.spec type-code-requires cast-t6 add-t7 cast-t10 add-t11 cast-t13 add-t14 returns)
+    (tie.spec
+    enum-told
+    enum-told-2
+    enum-told-3
+    enum-told-4
+    enum-told-5
+    enum-told-6
+    enum-told-7
+    enum-told-8
+    enum-told-9
+    enum-told-10
+    returns
+    returns-2
+    returns-3
+    returns-4
+    returns-5
+    returns-6
+    returns-7
+    returns-8
+    returns-9
+    returns-10)
