@@ -50,6 +50,28 @@ dateColumn Co2Mass = 10
 abbrev pub rangedValue : (start width decimals least most : ℕ) → Value
 rangedValue start width decimals least most = record { start = start; width = width; decimals = decimals; least = least; most = most }
 
+-- every line has its type and its stack name
+
+abbrev pub typeStart : ℕ
+typeStart = 1
+
+abbrev pub typeWidth : ℕ
+typeWidth = 3
+
+abbrev pub stackStart : ℕ
+stackStart = 4
+
+abbrev pub stackWidth : ℕ
+stackWidth = 6
+
+-- line 100, digits only
+
+abbrev pub yearDigits : Value
+yearDigits = rangedValue 10 4 0 1995 2094
+
+abbrev pub quarterDigit : Value
+quarterDigit = rangedValue 14 1 0 1 4
+
 -- a number with decimals that may be anything its columns hold: all of them but the point's
 abbrev pub anyDecimal : (start width decimals : ℕ) → Value
 anyDecimal start width decimals = rangedValue start width decimals 0 (10 ^ (width - 1) - 1)

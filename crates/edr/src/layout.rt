@@ -17,6 +17,29 @@ ghost use Rattle.edr.specs.Layout.{
   offsetOf,
 };
 
+// Every line has its type and its stack name; line 100 has the year and the quarter, digits only.
+pub const TYPE_START: usize = 1;
+
+pub const TYPE_WIDTH: usize = 3;
+
+pub const STACK_START: usize = 4;
+
+pub const YEAR_START: usize = 10;
+
+pub const YEAR_WIDTH: usize = 4;
+
+pub const YEAR_LEAST: u64 = 1995;
+
+pub const YEAR_MOST: u64 = 2094;
+
+pub const QUARTER_START: usize = 14;
+
+pub const QUARTER_WIDTH: usize = 1;
+
+pub const QUARTER_LEAST: u64 = 1;
+
+pub const QUARTER_MOST: u64 = 4;
+
 pub enum RecordType {
     // 100
     Facility,

@@ -13,7 +13,7 @@ use Rattle.columns.specs.declared.Field.{Field}
 use Rattle.columns.specs.declared.Field.the-variants.{Blank, Malformed, Number}
 use Rattle.calendar.specs.declared.QuarterHour.{QuarterHour}
 use Rattle.calendar.specs.declared.QuarterHour.the-variants.{At, Outside}
-use Rattle.edr.specs.Layout.{codeOf, lengthOf, dateColumn, valuesOf}
+use Rattle.edr.specs.Layout.{typeWidth, stackStart, stackWidth, yearDigits, quarterDigit, codeOf, lengthOf, dateColumn, valuesOf}
 use Rattle.edr.specs.Stamp.{stampHour}
 use Rattle.edr.specs.declared.layout.RecordType.{RecordType}
 use Rattle.edr.specs.declared.layout.RecordType.the-variants.{Facility, So2Concentration}
@@ -31,7 +31,7 @@ unless holds number = cond holds 0 number
 -- 2, 3 and 4: the type, the length, the bytes
 
 unfoldable pub typeIs : RecordType → List ℕ → Bool
-typeIs t line = same (take 3 line) (digitsOf 3 (codeOf t))
+typeIs t line = same (take typeWidth line) (digitsOf typeWidth (codeOf t))
 
 unfoldable pub shapeFault : RecordType → List ℕ → ℕ
 shapeFault t line =
@@ -40,7 +40,7 @@ shapeFault t line =
 -- 5: the stack name
 
 abbrev pub stackOf : List ℕ → List ℕ
-stackOf line = columns 4 6 line
+stackOf line = columns stackStart stackWidth line
 
 unfoldable pub stackFault : List ℕ → List ℕ → ℕ
 stackFault facility line = unless (same (stackOf line) (stackOf facility)) 5
@@ -67,10 +67,10 @@ numberWithin least most Malformed = false
 numberWithin least most (Number k) = leb least k && leb k most
 
 abbrev pub yearField : List ℕ → Field
-yearField facility = digitsOnly (columns 10 4 facility)
+yearField facility = digitsOnly (columns (yearDigits .start) (yearDigits .width) facility)
 
 abbrev pub quarterField : List ℕ → Field
-quarterField facility = digitsOnly (columns 14 1 facility)
+quarterField facility = digitsOnly (columns (quarterDigit .start) (quarterDigit .width) facility)
 
 unfoldable pub yearOn : List ℕ → ℕ
 yearOn facility = numberOf (yearField facility)
@@ -82,8 +82,8 @@ unfoldable pub facilityFault : List ℕ → ℕ
 facilityFault line =
     shapeFault Facility line
     orElse unless (not (all isBlank (stackOf line))) 5
-    orElse unless (numberWithin 1995 2094 (yearField line)) 6
-    orElse unless (numberWithin 1 4 (quarterField line)) 6
+    orElse unless (numberWithin (yearDigits .least) (yearDigits .most) (yearField line)) 6
+    orElse unless (numberWithin (quarterDigit .least) (quarterDigit .most) (quarterField line)) 6
 
 -- 6: date and hour of a 200 line, of which the hour of the quarter is at least `from`
 
@@ -92,7 +92,7 @@ risingFault from Outside = 6
 risingFault from (At hour) = unless (leb from hour) 6
 
 abbrev pub dateOn : List ℕ → List ℕ
-dateOn line = columns 16 8 line
+dateOn line = columns (dateColumn So2Concentration) 8 line
 
 unfoldable pub hourOn : List ℕ → List ℕ → QuarterHour
 hourOn facility line = stampHour (yearOn facility) (quarterOn facility) (dateOn line)

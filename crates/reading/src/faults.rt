@@ -121,10 +121,18 @@ pub fn facility_fault(rest: &[u8]) -> u64
     if columns::all_blank(&line[3..9]) {
         return 5;
     }
-    if !number_within(1995, 2094, columns::read_digits(line, 10, 4)) {
+    if !number_within(
+        layout::YEAR_LEAST,
+        layout::YEAR_MOST,
+        columns::read_digits(line, layout::YEAR_START, layout::YEAR_WIDTH),
+    ) {
         return 6;
     }
-    if !number_within(1, 4, columns::read_digits(line, 14, 1)) {
+    if !number_within(
+        layout::QUARTER_LEAST,
+        layout::QUARTER_MOST,
+        columns::read_digits(line, layout::QUARTER_START, layout::QUARTER_WIDTH),
+    ) {
         return 6;
     }
     0

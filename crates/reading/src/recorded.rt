@@ -29,14 +29,14 @@ pub fn year_on(facility: &[u8]) -> u64
     requires { ⌜ 14 ≤ length (now facility) ⌝ }
     ensures { λ r. ⌜ r ≡ yearOn (now (facility .entry)) ⌝ }
 {
-    number_of(columns::read_digits(facility, 10, 4))
+    number_of(columns::read_digits(facility, layout::YEAR_START, layout::YEAR_WIDTH))
 }
 
 pub fn quarter_on(facility: &[u8]) -> u64
     requires { ⌜ 14 ≤ length (now facility) ⌝ }
     ensures { λ r. ⌜ r ≡ quarterOn (now (facility .entry)) ⌝ }
 {
-    number_of(columns::read_digits(facility, 14, 1))
+    number_of(columns::read_digits(facility, layout::QUARTER_START, layout::QUARTER_WIDTH))
 }
 
 // The first hour of the quarter that may follow that of a 200 line.

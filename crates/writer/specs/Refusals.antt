@@ -7,7 +7,7 @@ use lib.ListN.{length}
 use lib.Dec.{eqb, leb, ltb}
 use Rattle.columns.specs.Bytes.{all, isBlank, isPrintable}
 use Rattle.calendar.specs.Calendar.{hoursInQuarter}
-use Rattle.edr.specs.Layout.{so2Ppm, noxPpm, co2Percent, flowScfh, timeHours, fFactor, heatRate, so2Rate, noxRate, co2Rate}
+use Rattle.edr.specs.Layout.{yearDigits, quarterDigit, so2Ppm, noxPpm, co2Percent, flowScfh, timeHours, fFactor, heatRate, so2Rate, noxRate, co2Rate}
 use Rattle.edr.specs.Formulas.{roundedFigures}
 use Rattle.edr.specs.declared.layout.Value.{Value}
 use Rattle.edr.specs.declared.hour.Figures.{Figures}
@@ -23,7 +23,8 @@ every p (h ∷ hs) = elim (p h) [ true ↦ every p hs | false ↦ false ]
 
 unfoldable pub headingHolds : ℕ → ℕ → List ℕ → Bool
 headingHolds year quarter name =
-    leb 1995 year && leb year 2094 && leb 1 quarter && leb quarter 4 && not (all isBlank name) && all isPrintable name
+    leb (yearDigits .least) year && leb year (yearDigits .most) && leb (quarterDigit .least) quarter && leb quarter (quarterDigit .most)
+    && not (all isBlank name) && all isPrintable name
 
 -- 31: the kinds of so many words of hour k, from word j on, are j, j + 1 and so on
 unfoldable pub kindsRise : List ℕ → ℕ → ℕ → ℕ → Bool

@@ -5,7 +5,7 @@ use mathlib.Core.List.{List, [], _∷_, _++_}
 use lib.ListN.{length, drop, replicate}
 use Rattle.columns.specs.Columns.{put}
 use Rattle.columns.specs.Written.{digitsOf, written}
-use Rattle.edr.specs.Layout.{codeOf, lengthOf, dateColumn, valuesOf}
+use Rattle.edr.specs.Layout.{codeOf, lengthOf, dateColumn, typeStart, typeWidth, stackStart, yearDigits, quarterDigit, valuesOf}
 use Rattle.edr.specs.Stamp.{stampOf}
 use Rattle.edr.specs.Totals.{quarterTotals}
 use Rattle.edr.specs.declared.hour.Hour.{Hour}
@@ -21,7 +21,7 @@ use Rattle.writer.specs.declared.Written.the-variants.{Length, Refused}
 
 -- type code and stack name in an otherwise blank record
 unfoldable pub headed : RecordType → List ℕ → List ℕ
-headed t name = put 4 name (put 1 (digitsOf 3 (codeOf t)) (replicate (lengthOf t) 32))
+headed t name = put stackStart name (put typeStart (digitsOf typeWidth (codeOf t)) (replicate (lengthOf t) 32))
 
 -- numbers in their columns, left to right
 unfoldable pub valued : List Value → List ℕ → List ℕ → List ℕ
@@ -34,7 +34,8 @@ abbrev pub ended : List ℕ → List ℕ
 ended line = line ++ (10 ∷ [])
 
 unfoldable pub facilityRecord : ℕ → ℕ → List ℕ → List ℕ
-facilityRecord year quarter name = put 14 (digitsOf 1 quarter) (put 10 (digitsOf 4 year) (headed Facility name))
+facilityRecord year quarter name =
+    put (quarterDigit .start) (digitsOf (quarterDigit .width) quarter) (put (yearDigits .start) (digitsOf (yearDigits .width) year) (headed Facility name))
 
 -- the values of an hour in the record of a type, left to right
 abbrev pub hourValues : RecordType → Hour → List ℕ

@@ -1,6 +1,7 @@
 // The records of a report, each written into its own part of the lent buffer.
 use crate::sheet::SheetHour;
 use edr::hour::Hour;
+use edr::layout;
 use edr::layout::RecordType;
 use edr::totals::Quarter;
 ghost use mathlib.Core.Path.{_≡_};
@@ -30,8 +31,13 @@ fn write_heading(line: &mut [u8], t: RecordType, name: &[u8])
     ensures { λ _. ⌜ now (line .exit) ≡ headed t (now (name .entry)) ⌝ }
 {
     fill_blank(line);
-    columns::write_digits(line, 1, 3, edr::layout::type_code(t));
-    columns::write_bytes(line, 4, name);
+    columns::write_digits(
+        line,
+        layout::TYPE_START,
+        layout::TYPE_WIDTH,
+        layout::type_code(t),
+    );
+    columns::write_bytes(line, layout::STACK_START, name);
 }
 
 // The first of these numbers, as many as the record has values, in its columns.
@@ -39,10 +45,10 @@ fn write_values(line: &mut [u8], t: RecordType, values: [u64; 4])
     requires { ⌜ length (now line) ≡ lengthOf t ⌝ }
     ensures { λ _. ⌜ now (line .exit) ≡ valued (valuesOf t) (take (valueCount t) values) (now (line .entry)) ⌝ }
 {
-    let count = edr::layout::value_count(t);
+    let count = layout::value_count(t);
     let mut i = 0;
     while i < count {
-        let v = edr::layout::value_at(t, i);
+        let v = layout::value_at(t, i);
         columns::write_number(line, v.start, v.width, v.decimals, values[i]);
         i += 1;
     }
@@ -53,8 +59,8 @@ fn facility_record(line: &mut [u8], year: u64, quarter: u64, name: &[u8])
     ensures { λ _. ⌜ now (line .exit) ≡ facilityRecord year quarter (now (name .entry)) ⌝ }
 {
     write_heading(line, RecordType::Facility, name);
-    columns::write_digits(line, 10, 4, year);
-    columns::write_digits(line, 14, 1, quarter);
+    columns::write_digits(line, layout::YEAR_START, layout::YEAR_WIDTH, year);
+    columns::write_digits(line, layout::QUARTER_START, layout::QUARTER_WIDTH, quarter);
 }
 
 pub fn recorded_hour(h: SheetHour) -> Hour
@@ -94,7 +100,7 @@ fn hour_record(line: &mut [u8], t: RecordType, name: &[u8], date: u64, h: Hour)
     ensures { λ _. ⌜ now (line .exit) ≡ datedRecord (now (name .entry)) t (digitsOf 8 date) h ⌝ }
 {
     write_heading(line, t, name);
-    columns::write_digits(line, edr::layout::date_column(t), 8, date);
+    columns::write_digits(line, layout::date_column(t), 8, date);
     write_values(line, t, hour_values(t, h));
 }
 
@@ -114,7 +120,7 @@ pub fn write_facility(buffer: &mut [u8], year: u64, quarter: u64, name: &[u8])
     requires { ⌜ (lengthOf RecordType.Facility < length (now buffer)) × (length (now name) ≡ 6) ⌝ }
     ensures { λ _. ⌜ now (buffer .exit) ≡ put 1 (ended (facilityRecord year quarter (now (name .entry)))) (now (buffer .entry)) ⌝ }
 {
-    let end = edr::layout::line_length(RecordType::Facility);
+    let end = layout::line_length(RecordType::Facility);
     facility_record(&mut buffer[0..end], year, quarter, name);
     buffer[end] = 10;
 }
@@ -132,8 +138,8 @@ pub fn write_hour(
     requires { ⌜ (k < n) × (n ≤ 2208) × (reportBytes n ≤ length (now buffer)) × (length (now name) ≡ 6) × (1 ≤ dateColumn t) ⌝ }
     ensures { λ _. ⌜ now (buffer .exit) ≡ put (offsetOf n t k + 1) (ended (datedRecord (now (name .entry)) t (digitsOf 8 date) h)) (now (buffer .entry)) ⌝ }
 {
-    let at = edr::layout::offset_of(n, t, k);
-    let end = at + edr::layout::line_length(t);
+    let at = layout::offset_of(n, t, k);
+    let end = at + layout::line_length(t);
     hour_record(&mut buffer[at..end], t, name, date, h);
     buffer[end] = 10;
 }
@@ -142,7 +148,7 @@ pub fn write_totals(buffer: &mut [u8], at: usize, name: &[u8], q: Quarter)
     requires { ⌜ (at + lengthOf RecordType.QuarterTotals < length (now buffer)) × (length (now name) ≡ 6) ⌝ }
     ensures { λ _. ⌜ now (buffer .exit) ≡ put (at + 1) (ended (totalsRecord (now (name .entry)) q)) (now (buffer .entry)) ⌝ }
 {
-    let end = at + edr::layout::line_length(RecordType::QuarterTotals);
+    let end = at + layout::line_length(RecordType::QuarterTotals);
     totals_record(&mut buffer[at..end], name, q);
     buffer[end] = 10;
 }

@@ -1,6 +1,7 @@
 // The refusals of the writer, 31 to 34, decided before the first byte is written.
 use crate::sheet::SheetHour;
 use edr::hour::Figures;
+use edr::layout;
 use edr::layout::RecordType;
 ghost use mathlib.Core.Path.{_≡_};
 ghost use Prim.Native.Nat.{_+_, _*_, _≤_, _<_};
@@ -21,16 +22,16 @@ ghost use Rattle.writer.specs.OnePass.{hourRefusal, earlier, refusalFrom
 fn heading_holds(year: u64, quarter: u64, name: &[u8]) -> bool
     ensures { λ r. ⌜ r ≡ headingHolds year quarter (now (name .entry)) ⌝ }
 {
-    if year < 1995 {
+    if year < layout::YEAR_LEAST {
         return false;
     }
-    if 2094 < year {
+    if layout::YEAR_MOST < year {
         return false;
     }
-    if quarter < 1 {
+    if quarter < layout::QUARTER_LEAST {
         return false;
     }
-    if 4 < quarter {
+    if layout::QUARTER_MOST < quarter {
         return false;
     }
     if columns::all_blank(name) {
@@ -61,7 +62,7 @@ fn in_range(t: RecordType, i: usize, k: u64) -> bool
     requires { ⌜ i < valueCount t ⌝ }
     ensures { λ r. ⌜ r ≡ inRange (valueAt t i) k ⌝ }
 {
-    let v = edr::layout::value_at(t, i);
+    let v = layout::value_at(t, i);
     if k < v.least {
         return false;
     }
