@@ -2,8 +2,12 @@
 use libc::STDERR_FILENO;
 use libc::STDIN_FILENO;
 use libc::STDOUT_FILENO;
+ghost use mathlib.Core.Path.{_≡_};
 ghost use Prim.Native.Nat.{_≤_};
 ghost use lib.ListN.{length};
+ghost use Rattle.columns.specs.Columns.{put};
+ghost use Rattle.checker.specs.Checked.{checked};
+ghost use Rattle.printing.specs.Printed.{printed, longestLine};
 ghost use Rattle.edr_check.specs.Input.{sizeOf};
 
 // What standard input held: a report of so many bytes, more than fits, or what a read refused.
@@ -47,16 +51,23 @@ fn read_input(report: &mut [u8]) -> Input
     behind(size)
 }
 
-fn print_check(report: &[u8]) {
-    let mut line = [0u8; 128];
-    let size = printing::print_answer(checker::check(report), &mut line);
-    io::write_all(STDOUT_FILENO, &line[..size]);
+// The line that says what the check answers to a report. Returns its length.
+fn answer_line(report: &[u8], line: &mut [u8]) -> usize
+    requires { ⌜ longestLine ≤ length (now line) ⌝ }
+    ensures { λ r. ⌜ (r ≡ length (printed (checked (now (report .entry))))) × (r ≤ longestLine)
+        × (now (line .exit) ≡ put 1 (printed (checked (now (report .entry)))) (now (line .entry))) ⌝ }
+{
+    printing::print_answer(checker::check(report), line)
 }
 
 fn main() {
     let mut report: [u8; 65536] = [0; 65536];
     match read_input(&mut report) {
-        Input::Report(size) => print_check(&report[..size]),
+        Input::Report(size) => {
+            let mut line = [0u8; 128];
+            let length = answer_line(&report[..size], &mut line);
+            io::write_all(STDOUT_FILENO, &line[..length]);
+        }
         Input::TooLong => {
             io::write_all(STDOUT_FILENO, b"too long\n");
         }

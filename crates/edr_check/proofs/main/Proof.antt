@@ -1,4 +1,4 @@
--- The report that was read lies within the buffer.
+-- The report that was read lies within the buffer, and the line within the room for it.
 use native.Mathlib.Omega.{arith}
 use borrow.Author.Needs.{needs}
 use lib.ListN.{length-take}
@@ -19,29 +19,41 @@ array-share-prefix-report c =
     let within = rw (c .before .size .given .1) at (c .before .before .before .before .read-input .ensures) in
     omega arith
 
-slice-aggregate-print-check : tie.Need-slice-aggregate-print-check
-slice-aggregate-print-check c = let within = array-share-prefix-report (c .before) in simp length-take (omega arith)
+slice-aggregate-answer-line : tie.Need-slice-aggregate-answer-line
+slice-aggregate-answer-line c = let within = array-share-prefix-report (c .before) in simp length-take (omega arith)
 
-print-check-requires : tie.Need-print-check-requires
-print-check-requires c κs = search needs
+slice-aggregate-answer-line-2 : tie.Need-slice-aggregate-answer-line-2
+slice-aggregate-answer-line-2 c = search needs
 
-enum-told : tie.Need-enum-told
-enum-told c = search needs
+answer-line-requires : tie.Need-answer-line-requires
+answer-line-requires c κs = search needs
+
+array-share-prefix-line : tie.Need-array-share-prefix-line
+array-share-prefix-line c = search needs
 
 slice-aggregate-write-all : tie.Need-slice-aggregate-write-all
-slice-aggregate-write-all c = search needs
+slice-aggregate-write-all c = simp length-take (omega arith)
 
 write-all-requires : tie.Need-write-all-requires
 write-all-requires c κs = search needs
 
-enum-told-2 : tie.Need-enum-told-2
-enum-told-2 c = search needs
+enum-told : tie.Need-enum-told
+enum-told c = search needs
 
 slice-aggregate-write-all-2 : tie.Need-slice-aggregate-write-all-2
 slice-aggregate-write-all-2 c = search needs
 
 write-all-requires-2 : tie.Need-write-all-requires-2
 write-all-requires-2 c κs = search needs
+
+enum-told-2 : tie.Need-enum-told-2
+enum-told-2 c = search needs
+
+slice-aggregate-write-all-3 : tie.Need-slice-aggregate-write-all-3
+slice-aggregate-write-all-3 c = search needs
+
+write-all-requires-3 : tie.Need-write-all-requires-3
+write-all-requires-3 c κs = search needs
 
 returns : tie.Need-returns
 returns c = search needs
@@ -60,14 +72,18 @@ main-spec =
     read-input-requires
     enum-known-size
     array-share-prefix-report
-    slice-aggregate-print-check
-    print-check-requires
-    enum-told
+    slice-aggregate-answer-line
+    slice-aggregate-answer-line-2
+    answer-line-requires
+    array-share-prefix-line
     slice-aggregate-write-all
     write-all-requires
-    enum-told-2
+    enum-told
     slice-aggregate-write-all-2
     write-all-requires-2
+    enum-told-2
+    slice-aggregate-write-all-3
+    write-all-requires-3
     returns
     returns-2
     returns-3)
