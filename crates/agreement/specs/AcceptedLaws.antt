@@ -9,16 +9,16 @@ use native.Mathlib.Omega.{arith}
 use lib.ListN.{length}
 use borrow.Author.Tests.{eq-eqb}
 use Rattle.calendar.specs.Calendar.{hoursInQuarter}
-use Rattle.edr.specs.Layout.{valuesOf}
-use Rattle.edr.specs.Hour.{Unrounded, asRecorded, entryOf}
-use Rattle.edr.specs.Formulas.{LiesBehind, roundedFigures}
-use Rattle.edr.specs.FormulaLaws.{written-behind}
-use Rattle.edr.specs.Totals.{totalsOf, quarterOf, quarterTotals}
-use Rattle.edr.specs.declared.hour.Hour.{Hour}
-use Rattle.edr.specs.declared.hour.Quantity.{Quantity}
-use Rattle.edr.specs.declared.totals.Quarter.{Quarter}
-use Rattle.edr.specs.declared.layout.RecordType.{RecordType}
-use Rattle.edr.specs.declared.layout.RecordType.the-variants.{Facility, So2Concentration, NoxConcentration, Co2Concentration, VolumetricFlow, Operation, QuarterTotals, So2Mass, NoxRate, Co2Mass}
+use Rattle.layout.specs.Layout.{valuesOf}
+use Rattle.formulas.specs.Hour.{Unrounded, asRecorded, entryOf}
+use Rattle.formulas.specs.Formulas.{LiesBehind, roundedFigures}
+use Rattle.formulas.specs.FormulaLaws.{written-behind}
+use Rattle.totals.specs.Totals.{totalsOf, quarterOf, quarterTotals}
+use Rattle.formulas.specs.declared.hour.Hour.{Hour}
+use Rattle.formulas.specs.declared.hour.Quantity.{Quantity}
+use Rattle.totals.specs.declared.Quarter.{Quarter}
+use Rattle.layout.specs.declared.RecordType.{RecordType}
+use Rattle.layout.specs.declared.RecordType.the-variants.{Facility, So2Concentration, NoxConcentration, Co2Concentration, VolumetricFlow, Operation, QuarterTotals, So2Mass, NoxRate, Co2Mass}
 use Rattle.reading.specs.Lines.{lines, last}
 use Rattle.reading.specs.LineFaults.{facilityFault}
 use Rattle.reading.specs.Reading.{laterTypes, runsOf as runsDue, reportOf, walkLater, walkHours, walk, readOf}
@@ -34,7 +34,7 @@ use Rattle.writer.specs.Refusals.{hoursRise}
 use Rattle.writer.specs.Written.{facilityRecord, hourRecord, totalsRecord, ended, runOf, runsOf, firstTypes, lastTypes, report}
 use Rattle.agreement.specs.HourRecordLaws.{Head, facility-heading, facility-right, facility-year, facility-quarter, totals-heading}
 use Rattle.agreement.specs.WalkLaws.{AllRight, HourRight, lines-record, lines-run, recordsOf, stamps, laterLines, Other, later-matches, later-other, matches-clean, walk-run, so2-dated, nox-dated, co2-dated, flow-dated, operation-dated, so2-mass-dated, nox-rate-dated, co2-mass-dated}
-use Rattle.agreement.specs.PlaceLaws.{report-parts, hours-written, totals-written, after100, after200, after201, after202, after220, after300, after301, after310, after320}
+use Rattle.agreement.specs.PlaceLaws.{report-lines, hours-written, totals-written}
 use Rattle.agreement.specs.TotalsFitLaws.{recorded-length, totals-fit}
 use Rattle.writer.specs.declared.sheet.SheetHour.{SheetHour}
 
@@ -98,31 +98,6 @@ module _ (year quarter : ℕ) (name : List ℕ) where
     abbrev formed : Quarter
     formed = quarterTotals (recordedHours hs)
 
-    later-lines : lines (after200 year quarter name g hs) ≡ laterLines year quarter name g hs formed
-    unfolding lines
-    later-lines =
-        lines-run year quarter name g NoxConcentration nox-dated hs (after201 year quarter name g hs)
-        ∙ ap (λ (l : List (List ℕ)). recordsOf year quarter name g NoxConcentration hs ++ l)
-        (lines-run year quarter name g Co2Concentration co2-dated hs (after202 year quarter name g hs)
-        ∙ ap (λ (l : List (List ℕ)). recordsOf year quarter name g Co2Concentration hs ++ l)
-        (lines-run year quarter name g VolumetricFlow flow-dated hs (after220 year quarter name g hs)
-        ∙ ap (λ (l : List (List ℕ)). recordsOf year quarter name g VolumetricFlow hs ++ l)
-        (lines-run year quarter name g Operation operation-dated hs (after300 year quarter name g hs)
-        ∙ ap (λ (l : List (List ℕ)). recordsOf year quarter name g Operation hs ++ l)
-        (lines-record (totalsRecord name formed) (after301 year quarter name g hs) (totals-heading year quarter name g formed .printable)
-        ∙ ap (λ (l : List (List ℕ)). totalsRecord name formed ∷ l)
-        (lines-run year quarter name g So2Mass so2-mass-dated hs (after310 year quarter name g hs)
-        ∙ ap (λ (l : List (List ℕ)). recordsOf year quarter name g So2Mass hs ++ l)
-        (lines-run year quarter name g NoxRate nox-rate-dated hs (after320 year quarter name g hs)
-        ∙ ap (λ (l : List (List ℕ)). recordsOf year quarter name g NoxRate hs ++ l) (lines-run year quarter name g Co2Mass co2-mass-dated hs [])))))))
-
-    report-lines : lines file ≡ facilityRecord year quarter name ∷ (recordsOf year quarter name g So2Concentration hs ++ laterLines year quarter name g hs formed)
-    report-lines =
-        ap lines (report-parts year quarter name g hs)
-        ∙ lines-record (facilityRecord year quarter name) (after100 year quarter name g hs) (facility-heading year quarter name g .printable)
-        ∙ ap (λ (l : List (List ℕ)). facilityRecord year quarter name ∷ l)
-        (lines-run year quarter name g So2Concentration so2-dated hs (after200 year quarter name g hs) ∙ ap (λ (l : List (List ℕ)). recordsOf year quarter name g So2Concentration hs ++ l) later-lines)
-
     abbrev own : Report
     own = record { year = year; quarter = quarter; hours = length hs }
 
@@ -134,7 +109,7 @@ module _ (year quarter : ℕ) (name : List ℕ) where
     unfolding walkLater
     report-clean =
         read-ended file (report-last hs)
-        ∙ ap walk report-lines
+        ∙ ap walk (report-lines year quarter name g hs)
         ∙ walk-first (facilityRecord year quarter name) (recordsOf year quarter name g So2Concentration hs ++ laterLines year quarter name g hs formed) (facility-right year quarter name g)
         ∙ walk-run year quarter name g hs 2 0 [] (laterLines year quarter name g hs formed) a r (later-other year quarter name g hs formed)
         ∙ matches-clean (reportOf (facilityRecord year quarter name) (stamps year quarter name g hs)) (facilityRecord year quarter name) (2 + length hs) (runsDue laterTypes (stamps year quarter name g hs)) (laterLines year quarter name g hs formed)

@@ -12,9 +12,9 @@ use borrow.Author.Tests.{leb-true}
 use Rattle.columns.specs.Bytes.{isBlank, isPrintable, all}
 use Rattle.calendar.specs.Calendar.{IsQuarter, hoursInQuarter}
 use Rattle.calendar.specs.CalendarLaws.{hours-in-quarter}
-use Rattle.edr.specs.Formulas.{roundedFigures}
-use Rattle.edr.specs.Totals.{totalsOf, quarterOf, quarterTotals}
-use Rattle.edr.specs.declared.totals.Quarter.{Quarter}
+use Rattle.formulas.specs.Formulas.{roundedFigures}
+use Rattle.totals.specs.Totals.{totalsOf, quarterOf, quarterTotals}
+use Rattle.totals.specs.declared.Quarter.{Quarter}
 use Rattle.checker.specs.Checked.{acceptance, numbersOf, checked}
 use Rattle.checker.specs.declared.Answer.the-variants.{Accepted}
 use Rattle.writer.specs.Sheet.{hourCount, hoursFrom, hoursOf, recordedHours}

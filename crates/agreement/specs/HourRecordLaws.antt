@@ -18,12 +18,12 @@ use Rattle.columns.specs.WrittenLaws.{digits-length, digits-printable, read-dig
 use Rattle.columns.specs.declared.Field.the-variants.{Number}
 use Rattle.calendar.specs.Calendar.{IsQuarter, hoursInQuarter}
 use Rattle.calendar.specs.declared.QuarterHour.the-variants.{At}
-use Rattle.edr.specs.Layout.{lengthOf, dateColumn, valuesOf}
-use Rattle.edr.specs.Stamp.{stampHour, stampNumber, stampOf}
-use Rattle.edr.specs.StampLaws.{stamp-length, stamp-printable, stamp-names}
-use Rattle.edr.specs.declared.totals.Quarter.{Quarter}
-use Rattle.edr.specs.declared.layout.RecordType.{RecordType}
-use Rattle.edr.specs.declared.layout.RecordType.the-variants.{Facility, So2Concentration, NoxConcentration, Co2Concentration, VolumetricFlow, Operation, QuarterTotals, So2Mass, NoxRate, Co2Mass}
+use Rattle.layout.specs.Layout.{lengthOf, dateColumn, valuesOf}
+use Rattle.stamp.specs.Stamp.{stampHour, stampNumber, stampOf}
+use Rattle.stamp.specs.StampLaws.{stamp-length, stamp-printable, stamp-names}
+use Rattle.totals.specs.declared.Quarter.{Quarter}
+use Rattle.layout.specs.declared.RecordType.{RecordType}
+use Rattle.layout.specs.declared.RecordType.the-variants.{Facility, So2Concentration, NoxConcentration, Co2Concentration, VolumetricFlow, Operation, QuarterTotals, So2Mass, NoxRate, Co2Mass}
 use Rattle.reading.specs.LineFaults.{_orElse_, unless, shapeFault, stackOf, stackFault, valuesFault, numberWithin, yearField, quarterField, yearOn, quarterOn, facilityFault, risingFault, dateOn, hourOn, hourFault, dateFault, dueFault}
 use Rattle.reading.specs.Reading.{dueOf, hourAfter}
 use Rattle.writer.specs.Sheet.{recordedHour}

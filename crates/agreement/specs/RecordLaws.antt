@@ -17,10 +17,10 @@ use Rattle.columns.specs.Number.{fieldOf, digitsHeld, fewestColumns}
 use Rattle.columns.specs.Written.{digitsOf, written}
 use Rattle.columns.specs.WrittenLaws.{digits-length, digits-printable, written-length, written-printable, read-written}
 use Rattle.columns.specs.declared.Field.the-variants.{Number}
-use Rattle.edr.specs.Layout.{codeOf, lengthOf, dateColumn, values, valuesOf, Within}
-use Rattle.edr.specs.declared.layout.Value.{Value}
-use Rattle.edr.specs.declared.layout.RecordType.{RecordType}
-use Rattle.edr.specs.declared.layout.RecordType.the-variants.{Facility, So2Concentration, NoxConcentration, Co2Concentration, VolumetricFlow, Operation, QuarterTotals, So2Mass, NoxRate, Co2Mass}
+use Rattle.layout.specs.Layout.{codeOf, lengthOf, dateColumn, valuesOf, Within}
+use Rattle.layout.specs.declared.Value.{Value}
+use Rattle.layout.specs.declared.RecordType.{RecordType}
+use Rattle.layout.specs.declared.RecordType.the-variants.{Facility, So2Concentration, NoxConcentration, Co2Concentration, VolumetricFlow, Operation, QuarterTotals, So2Mass, NoxRate, Co2Mass}
 use Rattle.reading.specs.LineFaults.{_orElse_, unless, typeIs, shapeFault, stackOf, stackFault, fieldFault, fieldIn, valuesFault}
 use Rattle.writer.specs.Written.{headed, valued}
 
@@ -128,7 +128,6 @@ abbrev pub frontOf : RecordType → ℕ
 frontOf t = elim (dateColumn t) [ zero ↦ 9 | suc c ↦ c + 8 ]
 
 pub ordered : (t : RecordType) → Ordered (frontOf t) (lengthOf t) (valuesOf t)
-unfolding values
 ordered t = ordered-of (frontOf t) (lengthOf t) (valuesOf t) (table t)
   where
     table : (t : RecordType) → orderedTest (frontOf t) (lengthOf t) (valuesOf t) ≡ true

@@ -10,12 +10,12 @@ use Rattle.exact.specs.Fraction.{over}
 use Rattle.exact.specs.FractionLaws.{quotient}
 use Rattle.exact.specs.Rounding.{recorded}
 use Rattle.exact.specs.Sums.{totalOf}
-use Rattle.edr.specs.Layout.{values, valuesOf}
-use Rattle.edr.specs.Hour.{thousandth}
-use Rattle.edr.specs.Formulas.{roundedFigures}
-use Rattle.edr.specs.Totals.{totalsOf, meanOf, quarterOf, quarterTotals}
-use Rattle.edr.specs.declared.hour.Hour.{Hour}
-use Rattle.edr.specs.declared.layout.RecordType.the-variants.{QuarterTotals}
+use Rattle.layout.specs.Layout.{valuesOf}
+use Rattle.formulas.specs.Hour.{thousandth}
+use Rattle.formulas.specs.Formulas.{roundedFigures}
+use Rattle.totals.specs.Totals.{totalsOf, meanOf, quarterOf, quarterTotals}
+use Rattle.formulas.specs.declared.hour.Hour.{Hour}
+use Rattle.layout.specs.declared.RecordType.the-variants.{QuarterTotals}
 use Rattle.writer.specs.Sheet.{recordedHour, recordedHours}
 use Rattle.writer.specs.Written.{totalValues}
 use Rattle.agreement.specs.RecordLaws.{AllWithin}
@@ -43,7 +43,7 @@ module _ (year quarter : ℕ) where
       omega (arith, div-lt-iff-lt-mul d .1 l)
 
   pub totals-fit : (hs : List SheetHour) → AllRight year quarter hs → length hs ≤ 2208 → AllWithin (valuesOf QuarterTotals) (totalValues (quarterTotals (recordedHours hs)))
-  unfolding values quarterTotals quarterOf totalsOf over
+  unfolding quarterTotals quarterOf totalsOf over
   totals-fit hs a b =
       let s = total-le (λ h. h .figures .so2 * h .time) 99_999_900 (λ h r. omega (arith, mul-le-mul (r .figures .so2 .most) (r .time .most))) hs a in
       let c = total-le (λ h. h .figures .co2 * h .time) 99_999_900 (λ h r. omega (arith, mul-le-mul (r .figures .co2 .most) (r .time .most))) hs a in

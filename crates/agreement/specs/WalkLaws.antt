@@ -15,13 +15,13 @@ use Rattle.columns.specs.BytesLaws.{all-head, all-tail}
 use Rattle.columns.specs.Written.{digitsOf}
 use Rattle.calendar.specs.Calendar.{IsQuarter, hoursInQuarter}
 use Rattle.calendar.specs.declared.QuarterHour.the-variants.{At}
-use Rattle.edr.specs.Layout.{codeOf, lengthOf, dateColumn, values, valuesOf, Within, timeHours}
-use Rattle.edr.specs.Stamp.{stampOf}
-use Rattle.edr.specs.Hour.{ReadingsWithin, FiguresWithin}
-use Rattle.edr.specs.Formulas.{roundedFigures}
-use Rattle.edr.specs.declared.totals.Quarter.{Quarter}
-use Rattle.edr.specs.declared.layout.RecordType.{RecordType}
-use Rattle.edr.specs.declared.layout.RecordType.the-variants.{Facility, So2Concentration, NoxConcentration, Co2Concentration, VolumetricFlow, Operation, QuarterTotals, So2Mass, NoxRate, Co2Mass}
+use Rattle.layout.specs.Layout.{codeOf, lengthOf, dateColumn, valuesOf, Within, timeHours}
+use Rattle.stamp.specs.Stamp.{stampOf}
+use Rattle.formulas.specs.Hour.{ReadingsWithin, FiguresWithin}
+use Rattle.formulas.specs.Formulas.{roundedFigures}
+use Rattle.totals.specs.declared.Quarter.{Quarter}
+use Rattle.layout.specs.declared.RecordType.{RecordType}
+use Rattle.layout.specs.declared.RecordType.the-variants.{Facility, So2Concentration, NoxConcentration, Co2Concentration, VolumetricFlow, Operation, QuarterTotals, So2Mass, NoxRate, Co2Mass}
 use Rattle.reading.specs.Lines.{onto, lines, last}
 use Rattle.reading.specs.LineFaults.{typeIs, dateOn, hourOn, hourFault, Due, dueFault}
 use Rattle.reading.specs.FaultLaws.{type-differs}
@@ -74,7 +74,6 @@ AllRight year quarter [] = Unit {0}
 AllRight year quarter (h ∷ hs) = HourRight year quarter h × AllRight year quarter hs
 
 pub dated-values : (year quarter : ℕ) (t : RecordType) (h : SheetHour) → Dated t → HourRight year quarter h → AllWithin (valuesOf t) (hourValues t (recordedHour h))
-unfolding values
 dated-values year quarter Facility h d r = tt
 dated-values year quarter So2Concentration h d r = (r .readings .so2, tt)
 dated-values year quarter NoxConcentration h d r = (r .readings .nox, tt)

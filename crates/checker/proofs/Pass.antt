@@ -8,45 +8,58 @@ use native.Mathlib.Omega.{arith}
 use native.Mathlib.Numerals.{add-one}
 use lib.ListN.{drop}
 use borrow.Author.Tests.{eq-eqb, ne-eqb}
-use Rattle.edr.specs.Layout.{lineOf}
-use Rattle.edr.specs.Formulas.{passesTest}
-use Rattle.edr.specs.Totals.{noTotals, withHour, runningTotals, totalsOf, quarterOf, quarterTotals}
-use Rattle.edr.specs.TotalLaws.{running-totals}
-use Rattle.edr.specs.declared.layout.RecordType.the-variants.{QuarterTotals}
-use Rattle.edr.specs.declared.hour.Figures.{Figures}
-use Rattle.edr.specs.declared.hour.Hour.{Hour}
-use Rattle.edr.specs.declared.hour.Quantity.{Quantity}
-use Rattle.edr.specs.declared.totals.Totals.{Totals}
-use Rattle.edr.specs.declared.totals.Quarter.{Quarter}
-use Rattle.reading.specs.Recorded.{hourAt, hoursFrom, hoursOf, totalsIn}
-use Rattle.checker.specs.Checked.{refusedAt, quantities, quantityAt, numberFor, typeFor, judgedFigures, judgedHours, comparedTotals, judged}
+use Rattle.layout.specs.Layout.{lineOf, shape}
+use Rattle.formulas.specs.Formulas.{passesTest}
+use Rattle.totals.specs.Totals.{noTotals, withHour, runningTotals, totalsOf, quarterOf, quarterTotals}
+use Rattle.totals.specs.TotalLaws.{running-totals}
+use Rattle.layout.specs.declared.RecordType.the-variants.{QuarterTotals}
+use Rattle.formulas.specs.declared.hour.Figures.{Figures}
+use Rattle.formulas.specs.declared.hour.Hour.{Hour}
+use Rattle.formulas.specs.declared.hour.Quantity.{Quantity}
+use Rattle.formulas.specs.declared.hour.Quantity.the-variants.{Heat, So2, Nox, Co2}
+use Rattle.totals.specs.declared.Totals.{Totals}
+use Rattle.totals.specs.declared.Quarter.{Quarter}
+use Rattle.reading.specs.Recorded.{Line, recordAt, hourCount, hourAt, hoursFrom, hoursOf, totalsIn}
+use Rattle.reading.specs.Places.{Standing}
+use Rattle.reading.specs.RecordLaws.{record-at, hours-standing}
+use Rattle.checker.specs.Checked.{refusedAt, quantities, quantityAt, numberFor, typeFor, lineFor, judgedFigures, judgedHours, comparedTotals, judged}
 use Rattle.checker.specs.declared.Answer.{Answer}
+
+-- the lines of the figures and of the totals, where the layout has them
+pub figure-line : (file : List ℕ) (n : ℕ) → Standing file (shape n) → (q : Quantity) (k : ℕ) → k < n → lineOf (shape n) (typeFor q) k ≡ lineFor file q k
+figure-line file n s Heat k h = sym (ap (λ (l : Line). l .number) (record-at file (shape n) s (typeFor Heat) k h))
+figure-line file n s So2 k h = sym (ap (λ (l : Line). l .number) (record-at file (shape n) s (typeFor So2) k h))
+figure-line file n s Nox k h = sym (ap (λ (l : Line). l .number) (record-at file (shape n) s (typeFor Nox) k h))
+figure-line file n s Co2 k h = sym (ap (λ (l : Line). l .number) (record-at file (shape n) s (typeFor Co2) k h))
+
+pub totals-line : (file : List ℕ) (n : ℕ) → Standing file (shape n) → lineOf (shape n) QuarterTotals 0 ≡ recordAt file QuarterTotals 0 .number
+totals-line file n s = sym (ap (λ (l : Line). l .number) (record-at file (shape n) s QuarterTotals 0 (omega arith)))
 
 module _ (file : List ℕ) (n : ℕ) where
   -- what follows the hours
   unfoldable pub ending : Answer
-  ending = comparedTotals (lineOf n QuarterTotals 0) (quarterTotals (hoursOf file n)) (totalsIn file n)
+  ending = comparedTotals (recordAt file QuarterTotals 0 .number) (quarterTotals (hoursOf file)) (totalsIn file)
 
   -- what is left from hour k on
   abbrev pub hoursLeft : ℕ → List Hour
-  hoursLeft k = hoursFrom file n k (n - k)
+  hoursLeft k = hoursFrom file k (n - k)
 
   unfoldable pub left : ℕ → Answer
-  left k = judgedHours n k (hoursLeft k) ending
+  left k = judgedHours file k (hoursLeft k) ending
 
   -- what is left from figure j of hour k on
   unfoldable pub figuresLeft : ℕ → Hour → ℕ → Answer
-  figuresLeft k h j = judgedFigures (drop j quantities) n k h (left (k + 1))
+  figuresLeft k h j = judgedFigures (drop j quantities) file k h (left (k + 1))
 
-  pub left-first : left 0 ≡ judged file n
+  pub left-first : Standing file (shape n) → left 0 ≡ judged file
   unfolding left ending judged hoursOf
-  left-first = let e : n - 0 ≡ n = omega arith in rw e
+  left-first s = let e : n - 0 ≡ hourCount file = omega (arith, hours-standing file (shape n) s) in rw e
 
-  hours-next : (k : ℕ) → k < n → hoursLeft k ≡ hourAt file n k ∷ hoursLeft (k + 1)
+  hours-next : (k : ℕ) → k < n → hoursLeft k ≡ hourAt file k ∷ hoursLeft (k + 1)
   unfolding hoursFrom
   hours-next k h = let e : n - k ≡ suc (n - (k + 1)) = omega arith in rw (e, add-one k)
 
-  pub left-hour : (k : ℕ) → k < n → figuresLeft k (hourAt file n k) 0 ≡ left k
+  pub left-hour : (k : ℕ) → k < n → figuresLeft k (hourAt file k) 0 ≡ left k
   unfolding left figuresLeft judgedHours
   left-hour k h = rw (hours-next k h, add-one k)
 
@@ -73,7 +86,7 @@ module _ (file : List ℕ) (n : ℕ) where
     unfolding figuresLeft judgedFigures
     figure-passed j b e = rw (drop-quantity j b, judgedFigures, e)
 
-    pub figure-failed : (j : ℕ) → j < 4 → passesTest (quantityAt j) h ≡ false → figuresLeft k h j ≡ refusedAt (11 + j) (lineOf n (typeFor (quantityAt j)) k)
+    pub figure-failed : (j : ℕ) → j < 4 → passesTest (quantityAt j) h ≡ false → figuresLeft k h j ≡ refusedAt (11 + j) (lineFor file (quantityAt j) k)
     unfolding figuresLeft judgedFigures
     figure-failed j b e = rw (drop-quantity j b, judgedFigures, e, number-at j b)
 
@@ -82,11 +95,11 @@ module _ (file : List ℕ) (n : ℕ) where
     figures-done = refl
 
   -- the running totals come to the totals of all hours
-  pub totals-first : runningTotals noTotals (hoursLeft 0) ≡ totalsOf (hoursOf file n)
+  pub totals-first : Standing file (shape n) → runningTotals noTotals (hoursLeft 0) ≡ totalsOf (hoursOf file)
   unfolding hoursOf
-  totals-first = let e : n - 0 ≡ n = omega arith in rw e (running-totals (hoursFrom file n 0 n))
+  totals-first s = let e : n - 0 ≡ hourCount file = omega (arith, hours-standing file (shape n) s) in rw e (running-totals (hoursFrom file 0 (hourCount file)))
 
-  pub totals-next : (t : Totals) (k : ℕ) → k < n → runningTotals (withHour t (hourAt file n k .figures) (hourAt file n k .time)) (hoursLeft (k + 1)) ≡ runningTotals t (hoursLeft k)
+  pub totals-next : (t : Totals) (k : ℕ) → k < n → runningTotals (withHour t (hourAt file k .figures) (hourAt file k .time)) (hoursLeft (k + 1)) ≡ runningTotals t (hoursLeft k)
   unfolding runningTotals
   totals-next t k h = rw (hours-next k h)
 
@@ -94,9 +107,9 @@ module _ (file : List ℕ) (n : ℕ) where
   unfolding runningTotals hoursFrom
   totals-end t = let e : n - n ≡ 0 = omega arith in rw e
 
-  pub ending-is : (t : Totals) → t ≡ totalsOf (hoursOf file n) → comparedTotals (lineOf n QuarterTotals 0) (quarterOf t) (totalsIn file n) ≡ ending
+  pub ending-is : Standing file (shape n) → (t : Totals) → t ≡ totalsOf (hoursOf file) → comparedTotals (lineOf (shape n) QuarterTotals 0) (quarterOf t) (totalsIn file) ≡ ending
   unfolding ending quarterTotals
-  ending-is t e = rw e
+  ending-is s t e = rw (e, totals-line file n s)
 
 pub grown-hours : (t : Totals) (f : Figures) (time k : ℕ) → t .hours ≡ k → withHour t f time .hours ≡ k + 1
 unfolding withHour

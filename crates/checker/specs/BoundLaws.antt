@@ -12,12 +12,12 @@ use Rattle.exact.specs.Rounding.{Records, recorded, half, halves, halfUp}
 use Rattle.exact.specs.RoundingLaws.{records-rounded}
 use Rattle.exact.specs.Sums.{totalOf, Rate, amount, recordedAmount, hundredths}
 use Rattle.exact.specs.SumLaws.{total-near, mean-near}
-use Rattle.edr.specs.Hour.{tenth, thousandth, unitOf, figureOf, HourWithin, Entry}
-use Rattle.edr.specs.Formulas.{valueOf, LiesBehind}
-use Rattle.edr.specs.Totals.{totalsOf, meanOf, quarterOf, quarterTotals}
-use Rattle.edr.specs.declared.hour.Hour.{Hour}
-use Rattle.edr.specs.declared.hour.Quantity.{Quantity}
-use Rattle.edr.specs.declared.hour.Quantity.the-variants.{Heat, So2, Nox, Co2}
+use Rattle.formulas.specs.Hour.{tenth, thousandth, unitOf, figureOf, HourWithin, Entry}
+use Rattle.formulas.specs.Formulas.{valueOf, LiesBehind}
+use Rattle.totals.specs.Totals.{totalsOf, meanOf, quarterOf, quarterTotals}
+use Rattle.formulas.specs.declared.hour.Hour.{Hour}
+use Rattle.formulas.specs.declared.hour.Quantity.{Quantity}
+use Rattle.formulas.specs.declared.hour.Quantity.the-variants.{Heat, So2, Nox, Co2}
 use Rattle.checker.specs.Promise.{LieBehind, exactShare, exactSum, exactAmount, reported, allowed}
 
 abbrev pub AllWithin : List Hour → Type 0

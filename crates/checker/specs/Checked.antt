@@ -4,17 +4,16 @@ use Prim.Native.Nat.{ℕ, zero, suc}
 use mathlib.Core.List.{List, [], _∷_}
 use mathlib.Core.Bool.{true, false}
 use lib.Dec.{eqb}
-use Rattle.edr.specs.Layout.{lineOf}
-use Rattle.edr.specs.Formulas.{passesTest}
-use Rattle.edr.specs.Totals.{quarterTotals}
-use Rattle.edr.specs.declared.layout.RecordType.{RecordType}
-use Rattle.edr.specs.declared.layout.RecordType.the-variants.{Operation, QuarterTotals, So2Mass, NoxRate, Co2Mass}
-use Rattle.edr.specs.declared.hour.Hour.{Hour}
-use Rattle.edr.specs.declared.hour.Quantity.{Quantity}
-use Rattle.edr.specs.declared.hour.Quantity.the-variants.{Heat, So2, Nox, Co2}
-use Rattle.edr.specs.declared.totals.Quarter.{Quarter}
+use Rattle.formulas.specs.Formulas.{passesTest}
+use Rattle.totals.specs.Totals.{quarterTotals}
+use Rattle.layout.specs.declared.RecordType.{RecordType}
+use Rattle.layout.specs.declared.RecordType.the-variants.{Operation, QuarterTotals, So2Mass, NoxRate, Co2Mass}
+use Rattle.formulas.specs.declared.hour.Hour.{Hour}
+use Rattle.formulas.specs.declared.hour.Quantity.{Quantity}
+use Rattle.formulas.specs.declared.hour.Quantity.the-variants.{Heat, So2, Nox, Co2}
+use Rattle.totals.specs.declared.Quarter.{Quarter}
 use Rattle.reading.specs.Reading.{readOf}
-use Rattle.reading.specs.Recorded.{hoursOf, totalsIn}
+use Rattle.reading.specs.Recorded.{recordAt, hoursOf, totalsIn}
 use Rattle.reading.specs.declared.Reading.{Reading}
 use Rattle.reading.specs.declared.Reading.the-variants.{Clean, Refused as Stopped}
 use Rattle.checker.specs.declared.Answer.{Answer}
@@ -57,16 +56,20 @@ typeFor So2 = So2Mass
 typeFor Nox = NoxRate
 typeFor Co2 = Co2Mass
 
--- the figures of hour k of n: the first that fails, or what follows the hour
-unfoldable pub judgedFigures : List Quantity → ℕ → ℕ → Hour → Answer → Answer
-judgedFigures [] n k h rest = rest
-judgedFigures (q ∷ qs) n k h rest =
-    elim (passesTest q h) [ true ↦ judgedFigures qs n k h rest | false ↦ refusedAt (numberFor q) (lineOf n (typeFor q) k) ]
+-- the line on which hour k has a figure
+abbrev pub lineFor : List ℕ → Quantity → ℕ → ℕ
+lineFor file q k = recordAt file (typeFor q) k .number
+
+-- the figures of hour k: the first that fails, or what follows the hour
+unfoldable pub judgedFigures : List Quantity → List ℕ → ℕ → Hour → Answer → Answer
+judgedFigures [] file k h rest = rest
+judgedFigures (q ∷ qs) file k h rest =
+    elim (passesTest q h) [ true ↦ judgedFigures qs file k h rest | false ↦ refusedAt (numberFor q) (lineFor file q k) ]
 
 -- the hours from hour k on, and what follows them
-unfoldable pub judgedHours : ℕ → ℕ → List Hour → Answer → Answer
-judgedHours n k [] rest = rest
-judgedHours n k (h ∷ hs) rest = judgedFigures quantities n k h (judgedHours n (suc k) hs rest)
+unfoldable pub judgedHours : List ℕ → ℕ → List Hour → Answer → Answer
+judgedHours file k [] rest = rest
+judgedHours file k (h ∷ hs) rest = judgedFigures quantities file k h (judgedHours file (suc k) hs rest)
 
 -- the totals formed against those stated on line 301
 unfoldable pub comparedTotals : ℕ → Quarter → Quarter → Answer
@@ -85,13 +88,13 @@ comparedTotals line formed stated =
           ]
     ]
 
--- the hours and the totals of a file of n operating hours whose lines are right
-unfoldable pub judged : List ℕ → ℕ → Answer
-judged file n =
-    judgedHours n 0 (hoursOf file n) (comparedTotals (lineOf n QuarterTotals 0) (quarterTotals (hoursOf file n)) (totalsIn file n))
+-- the hours and the totals of a file whose lines are right
+unfoldable pub judged : List ℕ → Answer
+judged file =
+    judgedHours file 0 (hoursOf file) (comparedTotals (recordAt file QuarterTotals 0 .number) (quarterTotals (hoursOf file)) (totalsIn file))
 
 unfoldable pub afterReading : List ℕ → Reading → Answer
-afterReading file (Clean report) = judged file (report .hours)
+afterReading file (Clean report) = judged file
 afterReading file (Stopped r) = Refused r
 
 unfoldable pub checked : List ℕ → Answer

@@ -7,18 +7,18 @@ use Rattle.exact.specs.Fraction.{over}
 use Rattle.exact.specs.Behind.{meets}
 use Rattle.exact.specs.Sums.{totalOf}
 use Rattle.columns.specs.Bytes.{all, same}
-use Rattle.columns.specs.Columns.{columns}
+use Rattle.columns.specs.Columns.{columns, put}
 use Rattle.columns.specs.Number.{digitsFrom, wholeOf, decimalsBehind, fixedOf, fieldOf, numberOf}
 use Rattle.columns.specs.Written.{digitsOf}
 use Rattle.calendar.specs.Calendar.{leapYear, daysInMonth, inQuarter, daysBefore, hourOfQuarter, quarterHour}
-use Rattle.edr.specs.Layout.{values}
-use Rattle.edr.specs.Stamp.{numberHour, fieldHour, stampHour}
-use Rattle.edr.specs.Formulas.{passesTest}
-use Rattle.edr.specs.Totals.{totalsOf, meanOf, quarterOf, quarterTotals}
+use Rattle.layout.specs.Layout.{lengthOf}
+use Rattle.stamp.specs.Stamp.{numberHour, fieldHour, stampHour}
+use Rattle.formulas.specs.Formulas.{passesTest}
+use Rattle.totals.specs.Totals.{totalsOf, meanOf, quarterOf, quarterTotals}
 use Rattle.reading.specs.Lines.{onto, lines, last}
 use Rattle.reading.specs.LineFaults.{typeIs, shapeFault, stackFault, fieldFault, valuesFault, numberWithin, yearOn, quarterOn, facilityFault, risingFault, hourOn, hourFault, dateFault, dueFault}
 use Rattle.reading.specs.Reading.{runOf, runsOf, walkDue, walkLater, hourAfter, walkHours, walk, readOf}
-use Rattle.reading.specs.Recorded.{valueIn, hourAt, hoursFrom, hoursOf, totalsIn}
+use Rattle.reading.specs.Recorded.{linesWith, recordsOf, valueOn, hourAt, hoursFrom, hoursOf, totalsIn}
 use Rattle.checker.specs.Checked.{numbersOf, judgedFigures, judgedHours, comparedTotals, judged, afterReading, checked}
 
 -- one hour at 2005 quarter 3, hour 0, time 0.50, SO2 250.0, NOx 200.0, CO2 12.0, flow 20,000,000, Fc 1,800.0
@@ -54,9 +54,14 @@ emptyQuarter =
     (51 ∷ 48 ∷ 49 ∷ 83 ∷ 84 ∷ 65 ∷ 67 ∷ 75 ∷ 49 ∷ 32 ∷ 32 ∷ 32 ∷ 32 ∷ 32 ∷ 32 ∷ 32 ∷ 32 ∷ 48 ∷ 46 ∷ 48 ∷ 32 ∷ 32 ∷ 32 ∷ 32 ∷ 32 ∷ 32 ∷ 32 ∷ 32 ∷ 48 ∷ 46 ∷ 48 ∷ 32 ∷ 32 ∷ 32 ∷ 32 ∷ 32 ∷ 32 ∷ 32 ∷ 32 ∷ 48 ∷ 46 ∷ 48 ∷ 32 ∷ 48 ∷ 46 ∷ 48 ∷ 48 ∷ 48 ∷ 10 ∷ [])
 
 pub worked-hour : numbersOf (checked workedHour) ≡ 1 ∷ 2 ∷ 684 ∷ 6667 ∷ 358 ∷ []
-unfolding workedHour over meets totalOf all same columns digitsFrom wholeOf decimalsBehind fixedOf fieldOf numberOf digitsOf leapYear daysInMonth inQuarter daysBefore hourOfQuarter quarterHour values numberHour fieldHour stampHour passesTest totalsOf meanOf quarterOf quarterTotals onto lines last typeIs shapeFault stackFault fieldFault valuesFault numberWithin yearOn quarterOn facilityFault risingFault hourOn hourFault dateFault dueFault runOf runsOf walkDue walkLater hourAfter walkHours walk readOf valueIn hourAt hoursFrom hoursOf totalsIn judgedFigures judgedHours comparedTotals judged afterReading checked
+unfolding workedHour over meets totalOf all same columns digitsFrom wholeOf decimalsBehind fixedOf fieldOf numberOf digitsOf leapYear daysInMonth inQuarter daysBefore hourOfQuarter quarterHour numberHour fieldHour stampHour passesTest totalsOf meanOf quarterOf quarterTotals onto lines last typeIs shapeFault stackFault fieldFault valuesFault numberWithin yearOn quarterOn facilityFault risingFault hourOn hourFault dateFault dueFault runOf runsOf walkDue walkLater hourAfter walkHours walk readOf linesWith recordsOf valueOn hourAt hoursFrom hoursOf totalsIn judgedFigures judgedHours comparedTotals judged afterReading checked
 worked-hour = refl
 
 pub empty-quarter : numbersOf (checked emptyQuarter) ≡ 0 ∷ 0 ∷ 0 ∷ 0 ∷ 0 ∷ []
-unfolding emptyQuarter over meets totalOf all same columns digitsFrom wholeOf decimalsBehind fixedOf fieldOf numberOf digitsOf leapYear daysInMonth inQuarter daysBefore hourOfQuarter quarterHour values numberHour fieldHour stampHour passesTest totalsOf meanOf quarterOf quarterTotals onto lines last typeIs shapeFault stackFault fieldFault valuesFault numberWithin yearOn quarterOn facilityFault risingFault hourOn hourFault dateFault dueFault runOf runsOf walkDue walkLater hourAfter walkHours walk readOf valueIn hourAt hoursFrom hoursOf totalsIn judgedFigures judgedHours comparedTotals judged afterReading checked
+unfolding emptyQuarter over meets totalOf all same columns digitsFrom wholeOf decimalsBehind fixedOf fieldOf numberOf digitsOf leapYear daysInMonth inQuarter daysBefore hourOfQuarter quarterHour numberHour fieldHour stampHour passesTest totalsOf meanOf quarterOf quarterTotals onto lines last typeIs shapeFault stackFault fieldFault valuesFault numberWithin yearOn quarterOn facilityFault risingFault hourOn hourFault dateFault dueFault runOf runsOf walkDue walkLater hourAfter walkHours walk readOf linesWith recordsOf valueOn hourAt hoursFrom hoursOf totalsIn judgedFigures judgedHours comparedTotals judged afterReading checked
 empty-quarter = refl
+
+-- a NOx rate of 0.958 is refused on its own line, the ninth
+pub wrong-rate : numbersOf (checked (put 341 (57 ∷ []) workedHour)) ≡ 13 ∷ 9 ∷ []
+unfolding put workedHour over meets totalOf all same columns digitsFrom wholeOf decimalsBehind fixedOf fieldOf numberOf digitsOf leapYear daysInMonth inQuarter daysBefore hourOfQuarter quarterHour numberHour fieldHour stampHour passesTest totalsOf meanOf quarterOf quarterTotals onto lines last typeIs shapeFault stackFault fieldFault valuesFault numberWithin yearOn quarterOn facilityFault risingFault hourOn hourFault dateFault dueFault runOf runsOf walkDue walkLater hourAfter walkHours walk readOf linesWith recordsOf valueOn hourAt hoursFrom hoursOf totalsIn judgedFigures judgedHours comparedTotals judged afterReading checked
+wrong-rate = refl

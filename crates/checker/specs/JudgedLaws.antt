@@ -9,14 +9,13 @@ use native.Mathlib.Omega.{arith}
 use native.Mathlib.Nat.{le-refl}
 use lib.Dec.{eqb}
 use borrow.Author.Tests.{eqb-true, eq-eqb}
-use Rattle.edr.specs.Layout.{lineOf}
-use Rattle.edr.specs.Formulas.{passesTest}
-use Rattle.edr.specs.declared.hour.Hour.{Hour}
-use Rattle.edr.specs.declared.hour.Quantity.{Quantity}
-use Rattle.edr.specs.declared.hour.Quantity.the-variants.{Heat, So2, Nox, Co2}
-use Rattle.edr.specs.declared.totals.Quarter.{Quarter}
+use Rattle.formulas.specs.Formulas.{passesTest}
+use Rattle.formulas.specs.declared.hour.Hour.{Hour}
+use Rattle.formulas.specs.declared.hour.Quantity.{Quantity}
+use Rattle.formulas.specs.declared.hour.Quantity.the-variants.{Heat, So2, Nox, Co2}
+use Rattle.totals.specs.declared.Quarter.{Quarter}
 use Rattle.reading.specs.Recorded.{hourAt, hoursFrom}
-use Rattle.checker.specs.Checked.{refusedAt, quantities, quantityAt, numberFor, typeFor, judgedFigures, judgedHours, comparedTotals}
+use Rattle.checker.specs.Checked.{refusedAt, quantities, quantityAt, numberFor, lineFor, judgedFigures, judgedHours, comparedTotals}
 use Rattle.checker.specs.declared.Answer.{Answer}
 use Rattle.checker.specs.declared.Answer.the-variants.{Accepted, Refused}
 
@@ -47,13 +46,13 @@ abbrev PassIn : List Quantity → Hour → Type 0
 PassIn [] h = Unit {0}
 PassIn (q ∷ qs) h = (passesTest q h ≡ true) × PassIn qs h
 
-figures-accepted : (qs : List Quantity) (n k : ℕ) (h : Hour) (rest : Answer) (r : Quarter) → judgedFigures qs n k h rest ≡ Accepted r → PassIn qs h × (rest ≡ Accepted r)
+figures-accepted : (qs : List Quantity) (file : List ℕ) (k : ℕ) (h : Hour) (rest : Answer) (r : Quarter) → judgedFigures qs file k h rest ≡ Accepted r → PassIn qs h × (rest ≡ Accepted r)
 unfolding judgedFigures
-figures-accepted [] n k h rest r e = (tt, e)
-figures-accepted (q ∷ qs) n k h rest r e = go (passesTest q h) refl e (figures-accepted qs n k h rest r)
+figures-accepted [] file k h rest r e = (tt, e)
+figures-accepted (q ∷ qs) file k h rest r e = go (passesTest q h) refl e (figures-accepted qs file k h rest r)
   where
-    go : (t : Bool) → passesTest q h ≡ t → elim t [ true ↦ judgedFigures qs n k h rest | false ↦ refusedAt (numberFor q) (lineOf n (typeFor q) k) ] ≡ Accepted r →
-        (judgedFigures qs n k h rest ≡ Accepted r → PassIn qs h × (rest ≡ Accepted r)) → ((passesTest q h ≡ true) × PassIn qs h) × (rest ≡ Accepted r)
+    go : (t : Bool) → passesTest q h ≡ t → elim t [ true ↦ judgedFigures qs file k h rest | false ↦ refusedAt (numberFor q) (lineFor file q k) ] ≡ Accepted r →
+        (judgedFigures qs file k h rest ≡ Accepted r → PassIn qs h × (rest ≡ Accepted r)) → ((passesTest q h ≡ true) × PassIn qs h) × (rest ≡ Accepted r)
     go true p w ih = let i = ih w in ((p, i .0), i .1)
     go false p w ih = never-accepted _ _ r w
 
@@ -64,23 +63,23 @@ all-in h p So2 = p .1 .0
 all-in h p Nox = p .1 .1 .0
 all-in h p Co2 = p .1 .1 .1 .0
 
-pub hours-accepted : (n k : ℕ) (hs : List Hour) (rest : Answer) (r : Quarter) → judgedHours n k hs rest ≡ Accepted r → AllPass hs × (rest ≡ Accepted r)
+pub hours-accepted : (file : List ℕ) (k : ℕ) (hs : List Hour) (rest : Answer) (r : Quarter) → judgedHours file k hs rest ≡ Accepted r → AllPass hs × (rest ≡ Accepted r)
 unfolding judgedHours
-hours-accepted n k [] rest r e = (tt, e)
-hours-accepted n k (h ∷ hs) rest r e =
-    let f = figures-accepted quantities n k h (judgedHours n (suc k) hs rest) r e in
-    let i = hours-accepted n (suc k) hs rest r (f .1) in
+hours-accepted file k [] rest r e = (tt, e)
+hours-accepted file k (h ∷ hs) rest r e =
+    let f = figures-accepted quantities file k h (judgedHours file (suc k) hs rest) r e in
+    let i = hours-accepted file (suc k) hs rest r (f .1) in
     ((all-in h (f .0), i .0), i .1)
 
-pub figures-pass : (qs : List Quantity) (n k : ℕ) (h : Hour) (rest : Answer) → Passes h → judgedFigures qs n k h rest ≡ rest
+pub figures-pass : (qs : List Quantity) (file : List ℕ) (k : ℕ) (h : Hour) (rest : Answer) → Passes h → judgedFigures qs file k h rest ≡ rest
 unfolding judgedFigures Passes
-figures-pass [] n k h rest p = refl
-figures-pass (q ∷ qs) n k h rest p = rw (p q, judgedFigures) (figures-pass qs n k h rest p)
+figures-pass [] file k h rest p = refl
+figures-pass (q ∷ qs) file k h rest p = rw (p q, judgedFigures) (figures-pass qs file k h rest p)
 
-pub hours-pass : (n k : ℕ) (hs : List Hour) (rest : Answer) → AllPass hs → judgedHours n k hs rest ≡ rest
+pub hours-pass : (file : List ℕ) (k : ℕ) (hs : List Hour) (rest : Answer) → AllPass hs → judgedHours file k hs rest ≡ rest
 unfolding judgedHours
-hours-pass n k [] rest p = refl
-hours-pass n k (h ∷ hs) rest p = figures-pass quantities n k h (judgedHours n (suc k) hs rest) (p .0) ∙ hours-pass n (suc k) hs rest (p .1)
+hours-pass file k [] rest p = refl
+hours-pass file k (h ∷ hs) rest p = figures-pass quantities file k h (judgedHours file (suc k) hs rest) (p .0) ∙ hours-pass file (suc k) hs rest (p .1)
 
 -- the number of a figure's refusal names the quantity
 named : (q : Quantity) → quantityAt (numberFor q - 11) ≡ q
@@ -92,41 +91,41 @@ named Co2 = refl
 same-quantity : (p q : Quantity) → numberFor p ≡ numberFor q → p ≡ q
 same-quantity p q e = sym (named p) ∙ ap (λ (n : ℕ). quantityAt (n - 11)) e ∙ named q
 
-figures-refused : (qs : List Quantity) (n k : ℕ) (h : Hour) (rest : Answer) (q : Quantity) (line : ℕ) → judgedFigures qs n k h rest ≡ refusedAt (numberFor q) line →
-    ((passesTest q h ≡ false) × (line ≡ lineOf n (typeFor q) k)) ⊎ (rest ≡ refusedAt (numberFor q) line)
+figures-refused : (qs : List Quantity) (file : List ℕ) (k : ℕ) (h : Hour) (rest : Answer) (q : Quantity) (line : ℕ) → judgedFigures qs file k h rest ≡ refusedAt (numberFor q) line →
+    ((passesTest q h ≡ false) × (line ≡ lineFor file q k)) ⊎ (rest ≡ refusedAt (numberFor q) line)
 unfolding judgedFigures
-figures-refused [] n k h rest q line e = inr e
-figures-refused (p ∷ ps) n k h rest q line e = go (passesTest p h) refl e (figures-refused ps n k h rest q line)
+figures-refused [] file k h rest q line e = inr e
+figures-refused (p ∷ ps) file k h rest q line e = go (passesTest p h) refl e (figures-refused ps file k h rest q line)
   where
-    go : (t : Bool) → passesTest p h ≡ t → elim t [ true ↦ judgedFigures ps n k h rest | false ↦ refusedAt (numberFor p) (lineOf n (typeFor p) k) ] ≡ refusedAt (numberFor q) line →
-        (judgedFigures ps n k h rest ≡ refusedAt (numberFor q) line → ((passesTest q h ≡ false) × (line ≡ lineOf n (typeFor q) k)) ⊎ (rest ≡ refusedAt (numberFor q) line)) →
-        ((passesTest q h ≡ false) × (line ≡ lineOf n (typeFor q) k)) ⊎ (rest ≡ refusedAt (numberFor q) line)
+    go : (t : Bool) → passesTest p h ≡ t → elim t [ true ↦ judgedFigures ps file k h rest | false ↦ refusedAt (numberFor p) (lineFor file p k) ] ≡ refusedAt (numberFor q) line →
+        (judgedFigures ps file k h rest ≡ refusedAt (numberFor q) line → ((passesTest q h ≡ false) × (line ≡ lineFor file q k)) ⊎ (rest ≡ refusedAt (numberFor q) line)) →
+        ((passesTest q h ≡ false) × (line ≡ lineFor file q k)) ⊎ (rest ≡ refusedAt (numberFor q) line)
     go true f w ih = ih w
     go false f w ih =
-        let a = same-number (numberFor p) (lineOf n (typeFor p) k) (numberFor q) line w in
+        let a = same-number (numberFor p) (lineFor file p k) (numberFor q) line w in
         let s = same-quantity p q (a .0) in
-        inl (rw s at f, sym (a .1) ∙ ap (λ (x : Quantity). lineOf n (typeFor x) k) s)
+        inl (rw s at f, sym (a .1) ∙ ap (λ (x : Quantity). lineFor file x k) s)
 
 -- the hour of a figure that fails
-pub record Failing (file : List ℕ) (n k : ℕ) (q : Quantity) (line : ℕ) : Type 0 where
+pub record Failing (file : List ℕ) (k : ℕ) (q : Quantity) (line : ℕ) : Type 0 where
   pub hour : ℕ
   pub exists : hour < k
-  pub own : line ≡ lineOf n (typeFor q) hour
-  pub fails : passesTest q (hourAt file n hour) ≡ false
+  pub own : line ≡ lineFor file q hour
+  pub fails : passesTest q (hourAt file hour) ≡ false
 
-pub hours-refused : (file : List ℕ) (n k left : ℕ) (rest : Answer) (q : Quantity) (line : ℕ) → judgedHours n k (hoursFrom file n k left) rest ≡ refusedAt (numberFor q) line →
-    Failing file n (k + left) q line ⊎ (rest ≡ refusedAt (numberFor q) line)
+pub hours-refused : (file : List ℕ) (k left : ℕ) (rest : Answer) (q : Quantity) (line : ℕ) → judgedHours file k (hoursFrom file k left) rest ≡ refusedAt (numberFor q) line →
+    Failing file (k + left) q line ⊎ (rest ≡ refusedAt (numberFor q) line)
 unfolding judgedHours hoursFrom
-hours-refused file n k zero rest q line e = inr e
-hours-refused file n k (suc left) rest q line e =
+hours-refused file k zero rest q line e = inr e
+hours-refused file k (suc left) rest q line e =
     ⊎-elim
     (λ f. inl (record { hour = k; exists = omega arith; own = f .1; fails = f .0 }))
     (λ w.
     ⊎-elim
     (λ f. inl (record { hour = f .hour; exists = omega (arith, f .exists); own = f .own; fails = f .fails }))
     (λ z. inr z)
-    (hours-refused file n (suc k) left rest q line w))
-    (figures-refused quantities n k (hourAt file n k) (judgedHours n (suc k) (hoursFrom file n (suc k) left) rest) q line e)
+    (hours-refused file (suc k) left rest q line w))
+    (figures-refused quantities file k (hourAt file k) (judgedHours file (suc k) (hoursFrom file (suc k) left) rest) q line e)
 
 number-low : (q : Quantity) → numberFor q ≤ 14
 number-low Heat = omega arith

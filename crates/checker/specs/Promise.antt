@@ -8,20 +8,18 @@ use lib.Dec.{lit<}
 use lib.ListN.{length}
 use Rattle.exact.specs.Fraction.{Fraction, _⊕_, _⊗_, _÷_, fraction, whole, Near}
 use Rattle.exact.specs.Rounding.{recorded}
-use Rattle.edr.specs.Layout.{lineOf}
-use Rattle.edr.specs.Hour.{tenth, thousandth, Unrounded, Entry, entryOf}
-use Rattle.edr.specs.Formulas.{valueOf, LiesBehind}
-use Rattle.edr.specs.Totals.{quarterTotals}
-use Rattle.edr.specs.declared.hour.Hour.{Hour}
-use Rattle.edr.specs.declared.hour.Quantity.{Quantity}
-use Rattle.edr.specs.declared.hour.Quantity.the-variants.{Heat, So2, Nox, Co2}
-use Rattle.edr.specs.declared.totals.Quarter.{Quarter}
-use Rattle.reading.specs.Lines.{lines}
+use Rattle.formulas.specs.Hour.{tenth, thousandth, Unrounded, Entry, entryOf}
+use Rattle.formulas.specs.Formulas.{valueOf, LiesBehind}
+use Rattle.totals.specs.Totals.{quarterTotals}
+use Rattle.formulas.specs.declared.hour.Hour.{Hour}
+use Rattle.formulas.specs.declared.hour.Quantity.{Quantity}
+use Rattle.formulas.specs.declared.hour.Quantity.the-variants.{Heat, So2, Nox, Co2}
+use Rattle.totals.specs.declared.Quarter.{Quarter}
 use Rattle.reading.specs.Reading.{readOf}
-use Rattle.reading.specs.Recorded.{hourLines, hourAt, hoursOf, totalsIn}
+use Rattle.reading.specs.Recorded.{hourCount, hourAt, hoursOf, totalsIn}
 use Rattle.reading.specs.declared.Reading.the-variants.{Clean}
 use Rattle.reading.specs.declared.Report.{Report}
-use Rattle.checker.specs.Checked.{acceptance, refusal, numbersOf, numberFor, typeFor}
+use Rattle.checker.specs.Checked.{acceptance, refusal, numbersOf, numberFor, lineFor}
 use Rattle.checker.specs.declared.Answer.{Answer}
 
 -- a list lies behind a quantity's hourly figures: one entry for each hour, in order, each behind its hour's figure
@@ -42,8 +40,8 @@ SetsBehind (h ∷ hs) (s ∷ ss) = ((q : Quantity) → LiesBehind q h (entryOf q
 pub record HonestlyRounded (file : List ℕ) (sets : List Unrounded) : Type 0 where
   pub report : Report
   pub clean : readOf file ≡ Clean report
-  pub behind : SetsBehind (hoursOf file (report .hours)) sets
-  pub totals : totalsIn file (report .hours) ≡ quarterTotals (hoursOf file (report .hours))
+  pub behind : SetsBehind (hoursOf file) sets
+  pub totals : totalsIn file ≡ quarterTotals (hoursOf file)
 
 -- The exact amount: rate × time summed, for SO2 over 2,000; for NOx the plain mean of the rates. 0 for no hour.
 abbrev pub exactShare : (q : Quantity) → Hour → Entry q → Fraction
@@ -79,24 +77,20 @@ allowed So2 n = fraction 1 20 (lit< tt) ⊕ fraction n 40_000 (lit< tt)
 allowed Nox n = fraction 1 1000 (lit< tt)
 allowed Co2 n = fraction 1 20 (lit< tt) ⊕ fraction n 20 (lit< tt)
 
--- the operating hours of an accepted file, in file order
-abbrev pub hoursIn : List ℕ → Quarter → List Hour
-hoursIn file r = hoursOf file (r .hours)
-
 -- a figure of the file behind which nothing lies, on its line
 pub record FailsAt (file : List ℕ) (q : Quantity) (line : ℕ) : Type 0 where
   pub report : Report
   pub clean : readOf file ≡ Clean report
   pub hour : ℕ
-  pub exists : hour < report .hours
-  pub own : line ≡ lineOf (report .hours) (typeFor q) hour
-  pub nothing : (e : Entry q) → LiesBehind q (hourAt file (report .hours) hour) e → ⊥
+  pub exists : hour < hourCount file
+  pub own : line ≡ lineFor file q hour
+  pub nothing : (e : Entry q) → LiesBehind q (hourAt file hour) e → ⊥
 
 pub record Promise (file : List ℕ) (answer : Answer) : Type 0 where
   pub honest : (sets : List Unrounded) → HonestlyRounded file sets → (r : Quarter) × (numbersOf answer ≡ acceptance r)
-  pub behind : (r : Quarter) → numbersOf answer ≡ acceptance r → (q : Quantity) → (es : List (Entry q)) × LieBehind q (hoursIn file r) es
-  pub bounds : (r : Quarter) → numbersOf answer ≡ acceptance r → (q : Quantity) (es : List (Entry q)) → LieBehind q (hoursIn file r) es →
-      Near (exactAmount q (hoursIn file r) es) (reported q r) (allowed q (r .hours))
+  pub behind : (r : Quarter) → numbersOf answer ≡ acceptance r → (q : Quantity) → (es : List (Entry q)) × LieBehind q (hoursOf file) es
+  pub bounds : (r : Quarter) → numbersOf answer ≡ acceptance r → (q : Quantity) (es : List (Entry q)) → LieBehind q (hoursOf file) es →
+      Near (exactAmount q (hoursOf file) es) (reported q r) (allowed q (r .hours))
   pub rightly : (q : Quantity) (line : ℕ) → numbersOf answer ≡ refusal (numberFor q) line → FailsAt file q line
-  pub count : (r : Quarter) → numbersOf answer ≡ acceptance r → r .hours ≡ hourLines (lines file)
-  pub totals : (r : Quarter) → numbersOf answer ≡ acceptance r → r ≡ totalsIn file (r .hours)
+  pub count : (r : Quarter) → numbersOf answer ≡ acceptance r → r .hours ≡ hourCount file
+  pub totals : (r : Quarter) → numbersOf answer ≡ acceptance r → r ≡ totalsIn file

@@ -8,49 +8,48 @@ use mathlib.Core.Logic.{_⊎_, ⊎-elim}
 use native.Mathlib.Omega.{arith}
 use lib.ListN.{length, getD}
 use Rattle.exact.specs.Fraction.{Near}
-use Rattle.edr.specs.Layout.{lineOf}
-use Rattle.edr.specs.Hour.{HourWithin, Unrounded, Entry, entryOf}
-use Rattle.edr.specs.Formulas.{LiesBehind, passesTest}
-use Rattle.edr.specs.FormulaLaws.{test-exact}
-use Rattle.edr.specs.Totals.{totalsOf, quarterOf, quarterTotals}
-use Rattle.edr.specs.declared.layout.RecordType.the-variants.{QuarterTotals}
-use Rattle.edr.specs.declared.hour.Hour.{Hour}
-use Rattle.edr.specs.declared.hour.Quantity.{Quantity}
-use Rattle.edr.specs.declared.totals.Quarter.{Quarter}
-use Rattle.reading.specs.Lines.{lines}
+use Rattle.formulas.specs.Hour.{HourWithin, Unrounded, Entry, entryOf}
+use Rattle.formulas.specs.Formulas.{LiesBehind, passesTest}
+use Rattle.formulas.specs.FormulaLaws.{test-exact}
+use Rattle.totals.specs.Totals.{totalsOf, quarterOf, quarterTotals}
+use Rattle.layout.specs.Layout.{shape}
+use Rattle.layout.specs.declared.RecordType.the-variants.{QuarterTotals}
+use Rattle.formulas.specs.declared.hour.Hour.{Hour}
+use Rattle.formulas.specs.declared.hour.Quantity.{Quantity}
+use Rattle.totals.specs.declared.Quarter.{Quarter}
 use Rattle.reading.specs.Reading.{readOf}
-use Rattle.reading.specs.Recorded.{hourLines, hourAt, hoursFrom, hoursOf, totalsIn}
+use Rattle.reading.specs.Recorded.{recordAt, hourCount, hourAt, hoursFrom, hoursOf, totalsIn}
 use Rattle.reading.specs.CleanFile.{CleanFile, clean-file}
-use Rattle.reading.specs.CountLaws.{clean-count}
+use Rattle.reading.specs.RecordLaws.{hours-standing}
 use Rattle.reading.specs.RefusalLaws.{refused-number}
 use Rattle.reading.specs.declared.Report.{Report}
 use Rattle.reading.specs.declared.Refusal.{Refusal}
 use Rattle.reading.specs.declared.Reading.{Reading}
 use Rattle.reading.specs.declared.Reading.the-variants.{Clean, Refused as Stopped}
 use Rattle.checker.specs.Checked.{acceptance, refusal, numbersOf, refusedAt, numberFor, comparedTotals, judgedHours, judged, afterReading, checked}
-use Rattle.checker.specs.Promise.{LieBehind, SetsBehind, HonestlyRounded, hoursIn, exactAmount, reported, allowed, FailsAt, Promise}
+use Rattle.checker.specs.Promise.{LieBehind, SetsBehind, HonestlyRounded, exactAmount, reported, allowed, FailsAt, Promise}
 use Rattle.checker.specs.JudgedLaws.{never-accepted, Passes, AllPass, hours-accepted, hours-pass, Failing, hours-refused, Agree, totals-accepted, totals-agree, totals-refused, number-high}
 use Rattle.checker.specs.BoundLaws.{AllWithin, amount-bound}
 use Rattle.checker.specs.declared.Answer.{Answer}
 use Rattle.checker.specs.declared.Answer.the-variants.{Accepted, Refused}
 
-hours-length : (file : List ℕ) (n k left : ℕ) → length (hoursFrom file n k left) ≡ left
+hours-length : (file : List ℕ) (k left : ℕ) → length (hoursFrom file k left) ≡ left
 unfolding hoursFrom
-hours-length file n k zero = refl
-hours-length file n k (suc left) = ap suc (hours-length file n (suc k) left)
+hours-length file k zero = refl
+hours-length file k (suc left) = ap suc (hours-length file (suc k) left)
 
-pub hours-count : (file : List ℕ) (n : ℕ) → length (hoursOf file n) ≡ n
+pub hours-count : (file : List ℕ) → length (hoursOf file) ≡ hourCount file
 unfolding hoursOf
-hours-count file n = hours-length file n 0 n
+hours-count file = hours-length file 0 (hourCount file)
 
-hours-within : (file : List ℕ) (n k left : ℕ) → ((j : ℕ) → j < n → HourWithin (hourAt file n j)) → k + left ≤ n → AllWithin (hoursFrom file n k left)
+hours-within : (file : List ℕ) (n k left : ℕ) → ((j : ℕ) → j < n → HourWithin (hourAt file j)) → k + left ≤ n → AllWithin (hoursFrom file k left)
 unfolding hoursFrom
 hours-within file n k zero w h = tt
 hours-within file n k (suc left) w h = (w k (omega arith), hours-within file n (suc k) left w (omega arith))
 
-all-within : (file : List ℕ) (r : Report) → CleanFile file r → AllWithin (hoursOf file (r .hours))
+all-within : (file : List ℕ) (r : Report) → CleanFile file r → AllWithin (hoursOf file)
 unfolding hoursOf
-all-within file r c = hours-within file (r .hours) 0 (r .hours) (c .within) (omega arith)
+all-within file r c = hours-within file (r .hours) 0 (hourCount file) (c .within) (omega (arith, hours-standing file (shape (r .hours)) (c .standing)))
 
 -- behind figures that pass lie readings, and figures behind which readings lie pass
 pass-behind : (q : Quantity) (hs : List Hour) → AllWithin hs → AllPass hs → (es : List (Entry q)) × LieBehind q hs es
@@ -72,14 +71,13 @@ behind-pass (h ∷ hs) (s ∷ ss) w b = ((λ q. test-exact q h (w .0 .readings) 
 record Facts (file : List ℕ) (r : Quarter) : Type 0 where
   report : Report
   clean : readOf file ≡ Clean report
-  hours : r .hours ≡ report .hours
-  pass : AllPass (hoursOf file (report .hours))
-  formed : quarterTotals (hoursOf file (report .hours)) ≡ r
-  agree : Agree (quarterTotals (hoursOf file (report .hours))) (totalsIn file (report .hours))
+  pass : AllPass (hoursOf file)
+  formed : quarterTotals (hoursOf file) ≡ r
+  agree : Agree (quarterTotals (hoursOf file)) (totalsIn file)
 
-formed-hours : (hs : List Hour) → quarterTotals hs .hours ≡ length hs
+formed-hours : (file : List ℕ) → quarterTotals (hoursOf file) .hours ≡ hourCount file
 unfolding quarterTotals quarterOf totalsOf
-formed-hours hs = refl
+formed-hours file = hours-count file
 
 accepted-facts : (file : List ℕ) (r : Quarter) → checked file ≡ Accepted r → Facts file r
 unfolding checked afterReading judged
@@ -87,29 +85,21 @@ accepted-facts file r e = go (readOf file) refl e
   where
     go : (x : Reading) → readOf file ≡ x → afterReading file x ≡ Accepted r → Facts file r
     go (Clean report) c w =
-        let n = report .hours in
-        let h = hours-accepted n 0 (hoursOf file n) (comparedTotals (lineOf n QuarterTotals 0) (quarterTotals (hoursOf file n)) (totalsIn file n)) r w in
-        let t = totals-accepted (lineOf n QuarterTotals 0) (quarterTotals (hoursOf file n)) (totalsIn file n) r (h .1) in
-        record {
-          report = report;
-          clean = c;
-          hours = ap (λ (y : Quarter). y .hours) (sym (t .0)) ∙ formed-hours (hoursOf file n) ∙ hours-count file n;
-          pass = h .0;
-          formed = t .0;
-          agree = t .1;
-        }
+        let line = recordAt file QuarterTotals 0 .number in
+        let h = hours-accepted file 0 (hoursOf file) (comparedTotals line (quarterTotals (hoursOf file)) (totalsIn file)) r w in
+        let t = totals-accepted line (quarterTotals (hoursOf file)) (totalsIn file) r (h .1) in
+        record { report = report; clean = c; pass = h .0; formed = t .0; agree = t .1 }
     go (Stopped x) c w = never-accepted (x .number) (x .line) r w
 
 -- an honest file is accepted with the totals formed
-pub honest-checked : (file : List ℕ) (sets : List Unrounded) (h : HonestlyRounded file sets) → checked file ≡ Accepted (quarterTotals (hoursOf file (h .report .hours)))
+pub honest-checked : (file : List ℕ) (sets : List Unrounded) → HonestlyRounded file sets → checked file ≡ Accepted (quarterTotals (hoursOf file))
 unfolding checked afterReading judged
 honest-checked file sets h =
-    let n = h .report .hours in
-    let hs = hoursOf file n in
+    let hs = hoursOf file in
     let p = behind-pass hs sets (all-within file (h .report) (clean-file file (h .report) (h .clean))) (h .behind) in
     let t = h .totals in
-    let a : Agree (quarterTotals hs) (totalsIn file n) = record { so2 = ap (λ (y : Quarter). y .so2) (sym t); co2 = ap (λ (y : Quarter). y .co2) (sym t); heat = ap (λ (y : Quarter). y .heat) (sym t); nox = ap (λ (y : Quarter). y .nox) (sym t) } in
-    ap (afterReading file) (h .clean) ∙ hours-pass n 0 hs _ p ∙ totals-agree (lineOf n QuarterTotals 0) (quarterTotals hs) (totalsIn file n) a
+    let a : Agree (quarterTotals hs) (totalsIn file) = record { so2 = ap (λ (y : Quarter). y .so2) (sym t); co2 = ap (λ (y : Quarter). y .co2) (sym t); heat = ap (λ (y : Quarter). y .heat) (sym t); nox = ap (λ (y : Quarter). y .nox) (sym t) } in
+    ap (afterReading file) (h .clean) ∙ hours-pass file 0 hs _ p ∙ totals-agree (recordAt file QuarterTotals 0 .number) (quarterTotals hs) (totalsIn file) a
 
 same-quarter : (f s : Quarter) → f .hours ≡ s .hours → Agree f s → f ≡ s
 same-quarter f s h a = λ i. record { hours = h i; so2 = a .so2 i; co2 = a .co2 i; heat = a .heat i; nox = a .nox i }
@@ -121,45 +111,39 @@ refused-rightly file q line e = go (readOf file) refl e
     go : (x : Reading) → readOf file ≡ x → afterReading file x ≡ refusedAt (numberFor q) line → FailsAt file q line
     go (Stopped x) c w = absurd (number-high q (x .number) (x .line) line w (refused-number file x c))
     go (Clean report) c w =
-        let n = report .hours in
+        let f = clean-file file report c in
+        let n = hours-standing file (shape (report .hours)) (f .standing) in
         ⊎-elim
-        (λ (f : Failing file n (0 + n) q line).
-        let x : f .hour < n = omega (arith, f .exists) in
+        (λ (g : Failing file (0 + hourCount file) q line).
         record {
           report = report;
           clean = c;
-          hour = f .hour;
-          exists = x;
-          own = f .own;
-          nothing = λ e b. let t = test-exact q (hourAt file n (f .hour)) (clean-file file report c .within (f .hour) x .readings) .1 (e, b) in let g = f .fails in let z : _≡_ {A = ℕ} 0 1 = cc in omega arith;
+          hour = g .hour;
+          exists = omega (arith, g .exists);
+          own = g .own;
+          nothing = λ e b. let t = test-exact q (hourAt file (g .hour)) (f .within (g .hour) (omega (arith, g .exists)) .readings) .1 (e, b) in let l = g .fails in let z : _≡_ {A = ℕ} 0 1 = cc in omega arith;
         })
-        (λ z. absurd (totals-refused (lineOf n QuarterTotals 0) (quarterTotals (hoursOf file n)) (totalsIn file n) q line z))
-        (hours-refused file n 0 n (comparedTotals (lineOf n QuarterTotals 0) (quarterTotals (hoursOf file n)) (totalsIn file n)) q line w)
+        (λ z. absurd (totals-refused (recordAt file QuarterTotals 0 .number) (quarterTotals (hoursOf file)) (totalsIn file) q line z))
+        (hours-refused file 0 (hourCount file) (comparedTotals (recordAt file QuarterTotals 0 .number) (quarterTotals (hoursOf file)) (totalsIn file)) q line w)
 
 module _ (file : List ℕ) (r : Quarter) (e : checked file ≡ Accepted r) where
-  accepted-within : AllWithin (hoursIn file r)
-  accepted-within = let f = accepted-facts file r e in rw (f .hours) (all-within file (f .report) (clean-file file (f .report) (f .clean)))
+  accepted-within : AllWithin (hoursOf file)
+  accepted-within = let f = accepted-facts file r e in all-within file (f .report) (clean-file file (f .report) (f .clean))
 
-  accepted-behind : (q : Quantity) → (es : List (Entry q)) × LieBehind q (hoursIn file r) es
-  accepted-behind q = let f = accepted-facts file r e in rw (f .hours) (pass-behind q (hoursOf file (f .report .hours)) (all-within file (f .report) (clean-file file (f .report) (f .clean))) (f .pass))
+  accepted-behind : (q : Quantity) → (es : List (Entry q)) × LieBehind q (hoursOf file) es
+  accepted-behind q = pass-behind q (hoursOf file) accepted-within (accepted-facts file r e .pass)
 
-  accepted-bounds : (q : Quantity) (es : List (Entry q)) → LieBehind q (hoursIn file r) es → Near (exactAmount q (hoursIn file r) es) (reported q r) (allowed q (r .hours))
+  accepted-count : r .hours ≡ hourCount file
+  accepted-count = ap (λ (y : Quarter). y .hours) (sym (accepted-facts file r e .formed)) ∙ formed-hours file
+
+  accepted-bounds : (q : Quantity) (es : List (Entry q)) → LieBehind q (hoursOf file) es → Near (exactAmount q (hoursOf file) es) (reported q r) (allowed q (r .hours))
   accepted-bounds q es b =
-      let f = accepted-facts file r e in
-      let s : quarterTotals (hoursIn file r) ≡ r = ap (λ (n : ℕ). quarterTotals (hoursOf file n)) (f .hours) ∙ f .formed in
-      subst₂ (λ (x : Quarter) (n : ℕ). Near (exactAmount q (hoursIn file r) es) (reported q x) (allowed q n)) s (hours-count file (r .hours))
-      (amount-bound q (hoursIn file r) es accepted-within b)
+      subst₂ (λ (x : Quarter) (n : ℕ). Near (exactAmount q (hoursOf file) es) (reported q x) (allowed q n)) (accepted-facts file r e .formed) (hours-count file ∙ sym accepted-count)
+      (amount-bound q (hoursOf file) es accepted-within b)
 
-  accepted-count : r .hours ≡ hourLines (lines file)
-  accepted-count = let f = accepted-facts file r e in f .hours ∙ sym (clean-count file (f .report) (f .clean))
-
-  accepted-totals : r ≡ totalsIn file (r .hours)
+  accepted-totals : r ≡ totalsIn file
   unfolding totalsIn
-  accepted-totals =
-      let f = accepted-facts file r e in
-      let s : quarterTotals (hoursOf file (r .hours)) ≡ r = ap (λ (n : ℕ). quarterTotals (hoursOf file n)) (f .hours) ∙ f .formed in
-      let a : Agree r (totalsIn file (r .hours)) = rw (← f .hours, s) at (f .agree) in
-      same-quarter r (totalsIn file (r .hours)) refl a
+  accepted-totals = let f = accepted-facts file r e in same-quarter r (totalsIn file) accepted-count (rw (f .formed) at (f .agree))
 
 -- the numbers that an answer says determine it
 accepts : (answer : Answer) (r : Quarter) → numbersOf answer ≡ acceptance r → answer ≡ Accepted r
@@ -178,7 +162,7 @@ pub promise : (file : List ℕ) → Promise file (checked file)
 promise file =
     let yes : (r : Quarter) → numbersOf (checked file) ≡ acceptance r → checked file ≡ Accepted r = accepts (checked file) in
     record {
-      honest = λ sets h. (quarterTotals (hoursOf file (h .report .hours)), ap numbersOf (honest-checked file sets h));
+      honest = λ sets h. (quarterTotals (hoursOf file), ap numbersOf (honest-checked file sets h));
       behind = λ r e. accepted-behind file r (yes r e);
       bounds = λ r e. accepted-bounds file r (yes r e);
       rightly = λ q line e. refused-rightly file q line (refuses (checked file) (numberFor q) line e);

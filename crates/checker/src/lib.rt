@@ -1,12 +1,11 @@
 // The check of a quarterly stack report: file and lines, then every hour's figures, then the totals.
-use edr::formulas;
-use edr::hour::Quantity;
-use edr::layout;
-use edr::layout::RecordType;
-use edr::totals::Quarter;
-use edr::totals::Totals;
+use formulas::hour::Quantity;
+use layout::RecordType;
+use layout::Shape;
 use reading::Reading;
 use reading::Refusal;
+use totals::Quarter;
+use totals::Totals;
 ghost use mathlib.Core.Path.{_≡_};
 ghost use Prim.Native.Nat.{_<_, _≤_};
 ghost use Rattle.checker.specs.Checked.{refusedAt, quantityAt, typeFor, comparedTotals, judged, checked};
@@ -72,7 +71,7 @@ fn compare(line: usize, formed: Quarter, stated: Quarter) -> Answer
 // that fails; it yields that figure's refusal, or the number 0.
 fn judge(file: &[u8], n: usize) -> Answer
     requires { ⌜ Judgeable (now file) n ⌝ }
-    ensures { λ r. ⌜ r ≡ judged (now (file .entry)) n ⌝ }
+    ensures { λ r. ⌜ r ≡ judged (now (file .entry)) ⌝ }
 {
     let mut totals = Totals::none();
     let mut k: usize = 0;
@@ -80,14 +79,14 @@ fn judge(file: &[u8], n: usize) -> Answer
         if k == n {
             break 'hours Refusal { number: 0, line: 0 };
         }
-        let hour = reading::hour(file, n, k);
+        let hour = reading::hour(file, Shape { hours: n }, k);
         let mut j: usize = 0;
         while j < 4 {
             let q = quantity_at(j);
             if !formulas::figure_passes(q, hour) {
                 break 'hours Refusal {
                     number: 11 + j as u64,
-                    line: layout::line_of(n, type_for(q), k),
+                    line: layout::line_of(Shape { hours: n }, type_for(q), k),
                 };
             }
             j += 1;
@@ -99,9 +98,9 @@ fn judge(file: &[u8], n: usize) -> Answer
         return Answer::Refused(failed);
     }
     compare(
-        layout::line_of(n, RecordType::QuarterTotals, 0),
+        layout::line_of(Shape { hours: n }, RecordType::QuarterTotals, 0),
         totals.quarter(),
-        reading::totals(file, n),
+        reading::totals(file, Shape { hours: n }),
     )
 }
 

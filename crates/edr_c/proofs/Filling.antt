@@ -6,7 +6,7 @@ use mathlib.Core.List.{List, [], _∷_}
 use native.Mathlib.Omega.{arith}
 use lib.ListN.{length, getD, drop, set}
 use borrow.Author.Tests.{lt-ltb, le-ltb, eq-eqb, ne-eqb}
-use Rattle.edr.specs.declared.totals.Quarter.{Quarter}
+use Rattle.totals.specs.declared.Quarter.{Quarter}
 use Rattle.reading.specs.declared.Refusal.{Refusal}
 use Rattle.checker.specs.Checked.{checked}
 use Rattle.checker.specs.declared.Answer.the-variants.{Accepted, Refused}

@@ -12,7 +12,7 @@ use Rattle.calendar.specs.declared.QuarterHour.the-variants.{At, Outside}
 use Rattle.columns.specs.Number.{digitsOnly}
 use Rattle.columns.specs.declared.Field.{Field}
 use Rattle.columns.specs.declared.Field.the-variants.{Blank, Malformed, Number}
-use Rattle.edr.specs.Stamp.{numberDate, numberHour, fieldHour, stampHour}
+use Rattle.stamp.specs.Stamp.{numberDate, numberHour, fieldHour, stampHour}
 
 pub stamp-below : (year quarter : ℕ) → IsQuarter quarter → (bs : List ℕ) (hour : ℕ) → stampHour year quarter bs ≡ At hour → hour < 2208
 unfolding stampHour fieldHour numberHour

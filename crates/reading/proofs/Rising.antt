@@ -13,14 +13,14 @@ use borrow.Author.Tests.{leb-true}
 use Rattle.calendar.specs.declared.QuarterHour.{QuarterHour}
 use Rattle.calendar.specs.declared.QuarterHour.the-variants.{At, Outside}
 use Rattle.columns.specs.Columns.{columns}
-use Rattle.edr.specs.Layout.{valuesOf}
-use Rattle.edr.specs.Stamp.{stampHour}
-use Rattle.edr.specs.declared.layout.RecordType.the-variants.{So2Concentration}
+use Rattle.layout.specs.Layout.{lengthOf, dateColumn, valuesOf}
+use Rattle.stamp.specs.Stamp.{stampHour}
+use Rattle.layout.specs.declared.RecordType.the-variants.{Facility, So2Concentration}
 use Rattle.reading.specs.Lines.{firstLine, lines}
 use Rattle.reading.specs.LineLaws.{lines-at}
 use Rattle.reading.specs.LineFaults.{unless, typeIs, shapeFault, stackFault, valuesFault, dateOn, risingFault, hourOn, hourFault}
 use Rattle.reading.specs.Reading.{refusedAt, walkLater, hourAfter, walkHours}
-use Rattle.reading.specs.Places.{Heads, facilityOf, dateIn, datesIn, Counted}
+use Rattle.reading.specs.Places.{Heads, facilityOf, dateIn, datesIn, Counted, hourStart}
 use Rattle.reading.specs.declared.Reading.{Reading}
 use Rattle.reading.proofs.Chains.{or-none, third-none}
 use Rattle.reading.proofs.Shapes.{shape-right, line-within, line-known}
@@ -34,25 +34,25 @@ window (suc a) w (suc k) [] h = refl
 window (suc a) w (suc k) (x ∷ xs) h = window a w k xs (omega arith)
 
 -- the date on the 200 line of rank n is where it is looked for later
-date-there : (file : List ℕ) (n at : ℕ) → at ≡ 15 + 41 * n → dateOn (drop at file) ≡ dateIn file n
+date-there : (file : List ℕ) (n at : ℕ) → at ≡ hourStart n → dateOn (drop at file) ≡ dateIn file n
 unfolding columns
 date-there file n at e =
-    let k : 31 + 41 * n - 1 ≡ at + 15 = omega arith in
+    let k : hourStart n + dateColumn So2Concentration - 1 ≡ at + 15 = omega arith in
     rw (k, drop-drop 15 at file)
 
 -- what the lines behind the facility line come to
 abbrev pub hoursWhole : List ℕ → Reading
-hoursWhole file = walkHours (facilityOf file) 2 0 [] (lines (drop 15 file))
+hoursWhole file = walkHours (facilityOf file) 2 0 [] (lines (drop (hourStart 0) file))
 
 -- n 200 lines are read, the next is at `at` and has at least the hour `from`
 pub record Rising (file : List ℕ) (n from at : ℕ) : Type 0 where
-  pub place : at ≡ 15 + 41 * n
-  pub room : 14 + 41 * n ≤ length file
+  pub place : at ≡ hourStart n
+  pub room : hourStart n ≤ length file + 1
   pub rise : n ≤ from
   pub most : from ≤ 2208
   pub left : walkHours (facilityOf file) (2 + n) from (datesIn file n) (lines (drop at file)) ≡ hoursWhole file
 
-pub rising-start : (file : List ℕ) → 14 ≤ length file → Rising file 0 0 15
+pub rising-start : (file : List ℕ) → lengthOf Facility ≤ length file → Rising file 0 0 (hourStart 0)
 unfolding datesIn
 rising-start file h = record { place = refl; room = omega arith; rise = omega arith; most = omega arith; left = refl }
 
@@ -111,7 +111,7 @@ module _ (file : List ℕ) (n from at : ℕ) (w : Rising file n from at) where
             let line = firstLine (drop at file) in
             third-none (shapeFault So2Concentration line) (stackFault (facilityOf file) line) (risingFault from (hourOn (facilityOf file) line)) (valuesFault (valuesOf So2Concentration) line) (sym e ∙ z)
 
-        pub rising-room : at + 40 ≤ length file
+        pub rising-room : at + lengthOf So2Concentration ≤ length file
         rising-room = omega (arith, shape-right So2Concentration (firstLine (drop at file)) shape, line-within (drop at file), length-drop at file)
 
         date-first : dateOn (firstLine (drop at file)) ≡ dateOn (drop at file)

@@ -10,13 +10,16 @@ use native.Mathlib.Numerals.{add-one}
 use lib.ListN.{length, take, drop, getD, length-append, length-map, drop-of-length-le, List·getD-append, List·getD-map}
 use lib.Seq.{drop-cons, getD-append-seam}
 use Rattle.columns.specs.Columns.{columns}
-use Rattle.edr.specs.Layout.{dateColumn}
-use Rattle.edr.specs.declared.layout.RecordType.{RecordType}
-use Rattle.edr.specs.declared.layout.RecordType.the-variants.{Facility}
+use Rattle.layout.specs.Layout.{recordOf, lengthOf, dateColumn, rowOf, linesOf, countOf, shape}
+use Rattle.layout.specs.declared.RecordType.{RecordType}
+use Rattle.layout.specs.declared.RecordType.the-variants.{Facility, So2Concentration}
+use Rattle.layout.specs.declared.Run.{Run}
+use Rattle.layout.specs.declared.Run.the-variants.{Once, Hourly}
+use Rattle.layout.specs.declared.Row.{Row}
 use Rattle.reading.specs.Lines.{lines}
 use Rattle.reading.specs.LineFaults.{Due}
-use Rattle.reading.specs.Reading.{laterTypes, dueOf, runOf, runsOf}
-use Rattle.reading.specs.Places.{dateIn, datesIn, laterType, runLength, dateDue}
+use Rattle.reading.specs.Reading.{laterTypes, dueOf, datesOf, runOf, runsOf}
+use Rattle.reading.specs.Places.{hourStart, dateIn, datesIn, laterType, dateFor, dateDue}
 
 -- the dates of the 200 lines
 
@@ -41,59 +44,50 @@ dates-at file (suc n) k h = go (dates-at file n k) (decLt k n)
 -- the lines of one type that are due
 
 module _ (file : List ℕ) (n : ℕ) (t : RecordType) (k : ℕ) where
-  pub run-one : k < runLength t n → drop k (runOf t (datesIn file n)) ≡ dueOf t (dateDue file t k) ∷ drop (k + 1) (runOf t (datesIn file n))
-  unfolding runLength runOf dateDue
-  run-one = go (dateColumn t) k
+  pub run-one : k < countOf (shape n) t → drop k (runOf t (datesIn file n)) ≡ dueOf t (dateDue file t k) ∷ drop (k + 1) (runOf t (datesIn file n))
+  unfolding runOf dateDue
+  run-one = go (recordOf t .run) k
     where
-      go : (column i : ℕ) → i < elim column [ zero ↦ 1 | suc c ↦ n ] →
-          drop i (elim column [ zero ↦ dueOf t [] ∷ [] | suc c ↦ map (dueOf t) (datesIn file n) ])
-          ≡ dueOf t (elim column [ zero ↦ [] | suc c ↦ dateIn file i ]) ∷ drop (i + 1) (elim column [ zero ↦ dueOf t [] ∷ [] | suc c ↦ map (dueOf t) (datesIn file n) ])
-      go zero zero h = refl
-      go zero (suc i) h = absurd (omega arith)
-      go (suc c) i h =
+      go : (run : Run) (i : ℕ) → i < linesOf run (shape n) →
+          drop i (map (dueOf t) (datesOf run (datesIn file n))) ≡ dueOf t (dateFor run file i) ∷ drop (i + 1) (map (dueOf t) (datesOf run (datesIn file n)))
+      go Once zero h = refl
+      go Once (suc i) h = absurd (omega arith)
+      go Hourly i h =
           let m : i < length (map (dueOf t) (datesIn file n)) = rw length-map (omega (arith, dates-length file n)) in
           drop-cons (map (dueOf t) (datesIn file n)) i (dueOf t []) m
           ∙ rw (List·getD-map (dueOf t) (datesIn file n) i [], dates-at file n i h, add-one i)
 
-  pub run-end : runLength t n ≤ k → drop k (runOf t (datesIn file n)) ≡ []
-  unfolding runLength runOf
-  run-end = go (dateColumn t)
+  pub run-end : countOf (shape n) t ≤ k → drop k (runOf t (datesIn file n)) ≡ []
+  unfolding runOf
+  run-end = go (recordOf t .run)
     where
-      go : (column : ℕ) → elim column [ zero ↦ 1 | suc c ↦ n ] ≤ k →
-          drop {A = Due} k (elim column [ zero ↦ dueOf t [] ∷ [] | suc c ↦ map (dueOf t) (datesIn file n) ]) ≡ []
-      go zero h = drop-of-length-le (dueOf t [] ∷ []) h
-      go (suc c) h =
+      go : (run : Run) → linesOf run (shape n) ≤ k → drop k (map (dueOf t) (datesOf run (datesIn file n))) ≡ []
+      go Once h = drop-of-length-le (dueOf t [] ∷ []) h
+      go Hourly h =
           let m : length (map (dueOf t) (datesIn file n)) ≤ k = rw length-map (omega (arith, dates-length file n)) in
           drop-of-length-le (map (dueOf t) (datesIn file n)) m
 
-module _ (t : RecordType) (n : ℕ) where
-  pub run-undated : dateColumn t ≡ 0 → runLength t n ≡ 1
-  unfolding runLength
-  run-undated e = rw (e, runLength)
+-- what a row says of its run, from the row that the code has
+module _ (t : RecordType) {r : Row} {run : Run} (e : r ≡ rowOf t) (f : r .run ≡ run) where
+  own-run : run ≡ recordOf t .run
+  own-run = sym f ∙ ap (λ (r : Row). r .run) e
 
-  pub run-dated : (dateColumn t ≡ 0 → ⊥) → runLength t n ≡ n
-  unfolding runLength
-  run-dated = go (dateColumn t)
-    where
-      go : (column : ℕ) → (column ≡ 0 → ⊥) → elim column [ zero ↦ 1 | suc c ↦ n ] ≡ n
-      go zero m = absurd (m refl)
-      go (suc c) m = refl
+  pub run-lines : (n : ℕ) → countOf (shape n) t ≡ linesOf run (shape n)
+  run-lines n = ap (λ run. linesOf run (shape n)) (sym own-run)
 
-module _ (file : List ℕ) (t : RecordType) (k : ℕ) where
-  pub due-undated : dateColumn t ≡ 0 → dateDue file t k ≡ []
+  pub run-date : (file : List ℕ) (k : ℕ) → dateFor run file k ≡ dateDue file t k
   unfolding dateDue
-  due-undated e = rw (e, dateDue)
+  run-date file k = ap (λ run. dateFor run file k) own-run
 
-  pub due-dated : (dateColumn t ≡ 0 → ⊥) → dateDue file t k ≡ take (30 + 41 * k + 8 - (30 + 41 * k)) (drop (30 + 41 * k) file)
-  unfolding dateDue columns
-  due-dated = go (dateColumn t)
-    where
-      here : 31 + 41 * k - 1 ≡ 30 + 41 * k
-      here = omega arith
+-- the date on the 200 line of rank k, in bytes
+abbrev pub dateFrom : ℕ → ℕ
+dateFrom k = hourStart 0 + dateColumn So2Concentration - 1 + (lengthOf So2Concentration + 1) * k
 
-      go : (column : ℕ) → (column ≡ 0 → ⊥) → elim column [ zero ↦ [] | suc c ↦ columns (31 + 41 * k) 8 file ] ≡ take (30 + 41 * k + 8 - (30 + 41 * k)) (drop (30 + 41 * k) file)
-      go zero m = absurd (m refl)
-      go (suc c) m = rw (here, add-sub-cancel-left (30 + 41 * k) 8)
+pub date-part : (file : List ℕ) (k : ℕ) → dateIn file k ≡ take (dateFrom k + 8 - dateFrom k) (drop (dateFrom k) file)
+unfolding columns
+date-part file k =
+    let here : hourStart k + dateColumn So2Concentration - 1 ≡ dateFrom k = omega arith in
+    rw (here, add-sub-cancel-left (dateFrom k) 8)
 
 -- the types that follow
 

@@ -15,8 +15,8 @@ use Rattle.columns.specs.Bytes.{isDigit, isPrintable, all, same}
 use Rattle.columns.specs.BytesLaws.{same-eq, all-head, all-tail}
 use Rattle.columns.specs.Written.{digitsOf}
 use Rattle.columns.specs.WrittenLaws.{digits-length, digits-all-digits}
-use Rattle.edr.specs.Layout.{codeOf, lengthOf}
-use Rattle.edr.specs.declared.layout.RecordType.{RecordType}
+use Rattle.layout.specs.Layout.{codeOf, lengthOf}
+use Rattle.layout.specs.declared.RecordType.{RecordType}
 use Rattle.reading.specs.Lines.{firstLine}
 use Rattle.reading.specs.LineLaws.{first-take}
 use Rattle.reading.specs.LineFaults.{_orElse_, unless, typeIs, shapeFault}

@@ -13,12 +13,13 @@ use Rattle.columns.specs.Bytes.{isBlank, all}
 use Rattle.columns.specs.Number.{numberOf}
 use Rattle.columns.specs.declared.Field.{Field}
 use Rattle.columns.specs.declared.Field.the-variants.{Blank, Malformed, Number}
-use Rattle.edr.specs.declared.layout.RecordType.the-variants.{Facility}
+use Rattle.layout.specs.Layout.{lengthOf}
+use Rattle.layout.specs.declared.RecordType.the-variants.{Facility}
 use Rattle.reading.specs.Lines.{firstLine, lines, last}
 use Rattle.reading.specs.LineLaws.{lines-at}
 use Rattle.reading.specs.LineFaults.{unless, shapeFault, stackOf, numberWithin, yearField, quarterField, quarterOn, facilityFault}
 use Rattle.reading.specs.Reading.{refusedAt, walkHours, walk, readOf}
-use Rattle.reading.specs.Places.{facilityOf}
+use Rattle.reading.specs.Places.{facilityOf, hourStart}
 use Rattle.reading.proofs.Chains.{or-none, last-none}
 use Rattle.reading.proofs.Shapes.{shape-right, line-known, line-room}
 use Rattle.reading.proofs.Walking.{found, passed}
@@ -67,15 +68,15 @@ module _ (l : List ℕ) (h : 0 < length l) where
       unfolding facilityFault
       fine = or-none _ _ (sym e ∙ z)
 
-      pub facility-room : 14 ≤ length l
+      pub facility-room : lengthOf Facility ≤ length l
       facility-room = line-room Facility l fine 14 refl
 
-      pub walk-passed : walk (lines l) ≡ walkHours (facilityOf l) 2 0 [] (lines (drop 15 l))
+      pub walk-passed : walk (lines l) ≡ walkHours (facilityOf l) 2 0 [] (lines (drop (hourStart 0) l))
       unfolding walk
       walk-passed =
           ap walk (lines-at l 0 h) ∙ passed f _ 1 _ e z
           ∙ ap (λ (m : ℕ). walkHours (firstLine l) 2 0 [] (lines (drop (0 + (m + 1)) l))) (shape-right Facility (firstLine l) fine)
-          ∙ ap (λ (line : List ℕ). walkHours line 2 0 [] (lines (drop 15 l))) (line-known Facility l fine 14 refl)
+          ∙ ap (λ (line : List ℕ). walkHours line 2 0 [] (lines (drop (hourStart 0) l))) (line-known Facility l fine 14 refl)
 
       valid : IsQuarter (quarterOn (firstLine l))
       unfolding facilityFault quarterOn

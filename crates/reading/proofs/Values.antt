@@ -12,11 +12,11 @@ use lib.Seq.{drop-cons}
 use Rattle.columns.specs.Bytes.{same}
 use Rattle.columns.specs.Columns.{columns}
 use Rattle.columns.specs.Number.{fewestColumns}
-use Rattle.edr.specs.Layout.{lengthOf, dateColumn, rangedValue, valueCount, valuesOf, valueAt}
-use Rattle.edr.specs.ValueLaws.{value-count, value-of, value-inside}
-use Rattle.edr.specs.declared.layout.RecordType.{RecordType}
-use Rattle.edr.specs.declared.layout.RecordType.the-variants.{Facility, So2Concentration, NoxConcentration, Co2Concentration, VolumetricFlow, Operation, QuarterTotals, So2Mass, NoxRate, Co2Mass}
-use Rattle.edr.specs.declared.layout.Value.{Value}
+use Rattle.layout.specs.Layout.{lengthOf, dateColumn, rangedValue, valueCount, valuesOf, valueAt}
+use Rattle.layout.specs.ValueLaws.{value-count, value-of, value-inside}
+use Rattle.layout.specs.declared.RecordType.{RecordType}
+use Rattle.layout.specs.declared.RecordType.the-variants.{Facility, So2Concentration, NoxConcentration, Co2Concentration, VolumetricFlow, Operation, QuarterTotals, So2Mass, NoxRate, Co2Mass}
+use Rattle.layout.specs.declared.Value.{Value}
 use Rattle.reading.specs.LineFaults.{_orElse_, unless, fieldFault, fieldIn, valuesFault, dateFault}
 use Rattle.reading.specs.Places.{Placed}
 use Rattle.reading.proofs.Chains.{or-first, or-next}

@@ -6,13 +6,13 @@ use mathlib.Core.List.{List, [], _∷_, _++_}
 use native.Mathlib.Omega.{arith}
 use lib.ListN.{length, take, drop, length-drop, drop-of-length-le}
 use lib.Seq.{take-all}
-use Rattle.edr.specs.Layout.{lengthOf}
-use Rattle.edr.specs.declared.layout.RecordType.{RecordType}
+use Rattle.layout.specs.Layout.{lengthOf, countOf, shape}
+use Rattle.layout.specs.declared.RecordType.{RecordType}
 use Rattle.reading.specs.Lines.{firstLine, lines}
 use Rattle.reading.specs.LineLaws.{lines-at}
 use Rattle.reading.specs.LineFaults.{Due, dueFault}
 use Rattle.reading.specs.Reading.{refusedAt, laterTypes, dueOf, runOf, runsOf, reportOf, walkDue, walkLater}
-use Rattle.reading.specs.Places.{facilityOf, datesIn, Counted, laterType, runLength, dateDue}
+use Rattle.reading.specs.Places.{facilityOf, datesIn, Counted, laterType, dateDue, hourStart}
 use Rattle.reading.specs.declared.Report.{Report}
 use Rattle.reading.specs.declared.Reading.{Reading}
 use Rattle.reading.specs.declared.Reading.the-variants.{Clean}
@@ -76,7 +76,7 @@ module _ (report : Report) (facility : List ℕ) (line : ℕ) (file : List ℕ) 
 
 -- what the lines behind n 200 lines come to
 abbrev pub laterWhole : List ℕ → ℕ → Reading
-laterWhole file n = walkLater (facilityOf file) (2 + n) (datesIn file n) (lines (drop (15 + 41 * n) file))
+laterWhole file n = walkLater (facilityOf file) (2 + n) (datesIn file n) (lines (drop (hourStart n) file))
 
 abbrev reportIn : List ℕ → ℕ → Report
 reportIn file n = reportOf (facilityOf file) (datesIn file n)
@@ -88,7 +88,7 @@ pub record Walked (file : List ℕ) (n at line : ℕ) (due : List Due) : Type 0 
   pub left : walkDue (reportIn file n) (facilityOf file) line due (lines (drop at file)) ≡ laterWhole file n
 
 module _ (file : List ℕ) (n : ℕ) where
-  pub walked-start : Counted file n → Walked file n (15 + 41 * n) (2 + n) (runsOf (drop 0 laterTypes) (datesIn file n))
+  pub walked-start : Counted file n → Walked file n (hourStart n) (2 + n) (runsOf (drop 0 laterTypes) (datesIn file n))
   unfolding walkLater
   walked-start h = record { room = omega arith; most = omega arith; left = refl }
 
@@ -109,17 +109,17 @@ module _ (file : List ℕ) (n : ℕ) where
         sym (due-clean (reportIn file n) (facilityOf file) line file at k) ∙ rw (← runs-end place (datesIn file n) h) (w .left)
 
     module _ (t : RecordType) (k : ℕ) (ds : List Due) (w : Walked file n at line (drop k (runOf t (datesIn file n)) ++ ds)) where
-      pub walked-run : runLength t n ≤ k → Walked file n at line ds
+      pub walked-run : countOf (shape n) t ≤ k → Walked file n at line ds
       walked-run h = rw (run-end file n t k h) at w
 
       -- the line of rank k is due
-      next : k < runLength t n → Walked file n at line (dueOf t (dateDue file t k) ∷ (drop (k + 1) (runOf t (datesIn file n)) ++ ds))
+      next : k < countOf (shape n) t → Walked file n at line (dueOf t (dateDue file t k) ∷ (drop (k + 1) (runOf t (datesIn file n)) ++ ds))
       next h = rw (run-one file n t k h) at w
 
-      pub walked-missing : k < runLength t n → length file ≤ at → refusedAt 10 line ≡ laterWhole file n
+      pub walked-missing : k < countOf (shape n) t → length file ≤ at → refusedAt 10 line ≡ laterWhole file n
       walked-missing h p = sym (due-missing (reportIn file n) (facilityOf file) line file at _ _ p) ∙ next h .left
 
-      module _ (h : k < runLength t n) (p : at < length file) (f : ℕ) (e : f ≡ dueFault (facilityOf file) (dueOf t (dateDue file t k)) (firstLine (drop at file))) where
+      module _ (h : k < countOf (shape n) t) (p : at < length file) (f : ℕ) (e : f ≡ dueFault (facilityOf file) (dueOf t (dateDue file t k)) (firstLine (drop at file))) where
         pub walked-found : (f ≡ 0 → ⊥) → refusedAt f line ≡ laterWhole file n
         walked-found m = sym (due-found (reportIn file n) (facilityOf file) line file at p _ _ f e m) ∙ next h .left
 

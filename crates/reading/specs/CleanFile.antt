@@ -15,30 +15,33 @@ use Rattle.columns.specs.Number.{fieldOf, numberOf}
 use Rattle.columns.specs.declared.Field.{Field}
 use Rattle.columns.specs.declared.Field.the-variants.{Blank, Malformed, Number}
 use Rattle.calendar.specs.Calendar.{IsQuarter}
-use Rattle.edr.specs.Layout.{lengthOf, values, valueCount, valuesOf, valueAt, rangedValue, offsetOf, Within}
-use Rattle.edr.specs.ValueLaws.{value-count, value-of, value-inside}
-use Rattle.edr.specs.Hour.{HourWithin}
-use Rattle.edr.specs.declared.layout.RecordType.{RecordType}
-use Rattle.edr.specs.declared.layout.RecordType.the-variants.{Facility, So2Concentration, NoxConcentration, Co2Concentration, VolumetricFlow, Operation, QuarterTotals, So2Mass, NoxRate, Co2Mass}
+use Rattle.layout.specs.Layout.{lengthOf, valueCount, valuesOf, valueAt, rangedValue, order, countOf, offsetOf, reportLength, Within, shape}
+use Rattle.layout.specs.LayoutLaws.{report-length}
+use Rattle.layout.specs.ValueLaws.{value-count, value-of, value-inside}
+use Rattle.formulas.specs.Hour.{HourWithin}
+use Rattle.layout.specs.declared.RecordType.{RecordType}
+use Rattle.layout.specs.declared.RecordType.the-variants.{Facility, So2Concentration, NoxConcentration, Co2Concentration, VolumetricFlow, Operation, QuarterTotals, So2Mass, NoxRate, Co2Mass}
+use Rattle.layout.specs.declared.Shape.{Shape}
 use Rattle.reading.specs.Lines.{firstLine, lines, last}
-use Rattle.reading.specs.LineLaws.{lines-at}
-use Rattle.reading.specs.LineFaults.{_orElse_, unless, shapeFault, stackOf, numberWithin, yearField, quarterField, yearOn, quarterOn, facilityFault}
-use Rattle.reading.specs.FaultLaws.{or-zero, unless-zero, both-true, shape-length, values-within, columns-of-line}
+use Rattle.reading.specs.LineLaws.{lines-at, line-at}
+use Rattle.reading.specs.LineFaults.{_orElse_, unless, shapeFault, valuesFault, stackOf, numberWithin, yearField, quarterField, yearOn, quarterOn, facilityFault}
+use Rattle.reading.specs.FaultLaws.{or-zero, unless-zero, both-true, shape-type, shape-length, values-within}
 use Rattle.reading.specs.EndLaws.{line-within}
 use Rattle.reading.specs.Reading.{refusedAt, laterTypes, walkHours, walk, readOf}
-use Rattle.reading.specs.Recorded.{valueIn, hourAt}
+use Rattle.reading.specs.Recorded.{valueOn, hourAt}
+use Rattle.reading.specs.Places.{Standing, hourStart}
 use Rattle.reading.specs.CleanLaws.{never-clean, LineRight, RunsRight}
 use Rattle.reading.specs.HoursLaws.{HoursRight, hours-right}
+use Rattle.reading.specs.RecordLaws.{records-placed, record-at}
 use Rattle.reading.specs.declared.Report.{Report}
 use Rattle.reading.specs.declared.Reading.{Reading}
 use Rattle.reading.specs.declared.Reading.the-variants.{Clean}
 
 pub record CleanFile (file : List ℕ) (r : Report) : Type 0 where
-  pub size : length file ≡ 64 + 318 * r .hours
-  pub most : r .hours ≤ 2208
+  pub standing : Standing file (shape (r .hours))
   pub year : (1995 ≤ r .year) × (r .year ≤ 2094)
   pub quarter : IsQuarter (r .quarter)
-  pub within : (k : ℕ) → k < r .hours → HourWithin (hourAt file (r .hours) k)
+  pub within : (k : ℕ) → k < r .hours → HourWithin (hourAt file k)
 
 number-within : (least most : ℕ) (f : Field) → numberWithin least most f ≡ true → (least ≤ numberOf f) × (numberOf f ≤ most)
 unfolding numberWithin numberOf
@@ -66,46 +69,58 @@ module _ (line : List ℕ) (e : facilityFault line ≡ 0) where
   facility-quarter = let q = number-within 1 4 (quarterField line) (unless-zero (numberWithin 1 4 (quarterField line)) 5 (facility-ranges .1)) in record { least = q .0; most = q .1 }
 
 module _ (file : List ℕ) (ends : last file ≡ 10) (facility : List ℕ) where
-  -- every value of a line that is right lies in its range
-  value-within : (t : RecordType) (n k i at : ℕ) → at ≡ offsetOf n t k → i < valueCount t → LineRight file ends facility t at → Within (valueAt t i) (valueIn file n t k i)
-  unfolding LineRight valueIn
-  value-within t n k i at e h l =
+  facility-first : facilityFault (firstLine file) ≡ 0 → 0 < length file → LineRight file ends facility Facility 0
+  unfolding valuesFault
+  facility-first e b =
+      let f = facility-shape (firstLine file) e in
+      let n = shape-length Facility (firstLine file) f in
+      let l = line-at file 0 (lengthOf Facility) n in
+      record { type = rw l at (shape-type Facility (firstLine file) f); next = rw (n, l) at (lines-at file 0 b); values = refl }
+
+  whole-right : (r : Report) (q : IsQuarter (quarterOn facility)) → LineRight file ends facility Facility 0 → HoursRight file ends facility q 0 r → RunsRight file ends facility order (shape (r .hours)) 0
+  unfolding RunsRight
+  whole-right r q f h = ((λ k b. let e : 0 + (lengthOf Facility + 1) * k ≡ 0 = omega arith in rw e f), ((λ k b. h .each k (omega arith) b), h .later))
+
+  -- every value of a record lies in its range
+  value-within : (s : Shape) → Standing file s → (t : RecordType) (k i at : ℕ) → at ≡ offsetOf s t k → k < countOf s t → i < valueCount t → LineRight file ends facility t at → Within (valueAt t i) (valueOn file t k i)
+  unfolding valueOn
+  value-within s d t k i at e b h l =
       let line = take (lengthOf t) (drop at file) in
-      let b : i < length (valuesOf t) = rw (value-count t) h in
-      let w = rw (value-of t i h) at (values-within (valuesOf t) line l i (rangedValue 0 0 0 0 0) b) in
-      let v = value-inside t i h in
-      rw (← e, ← columns-of-line file at (lengthOf t) (valueAt t i .start) (valueAt t i .width) (v .first) (v .last)) w
+      let c : i < length (valuesOf t) = rw (value-count t) h in
+      let w = rw (value-of t i h) at (values-within (valuesOf t) line (l .values) i (rangedValue 0 0 0 0 0) c) in
+      rw (record-at file s d t k b, ← e) w
 
-  module _ (r : Report) (q : IsQuarter (quarterOn facility)) (h : HoursRight file ends facility q 0 r) where
-    size-of : length file ≡ 64 + 318 * r .hours
+  module _ (s : Shape) (r : RunsRight file ends facility order s 0) where
+    size-of : length file ≡ reportLength s
     unfolding RunsRight
-    size-of = let l = h .later .1 .1 .1 .1 .1 .1 .1 .1 in omega arith
+    size-of = let l = r .1 .1 .1 .1 .1 .1 .1 .1 .1 .1 in omega (arith, report-length s)
 
-    hour-within : (k : ℕ) → k < r .hours → HourWithin (hourAt file (r .hours) k)
-    unfolding RunsRight hourAt values
-    hour-within k b =
-        let n = r .hours in
-        let l = h .later in
-        let two = l .1 in
-        let flow = two .1 in
-        let operation = flow .1 in
-        let so2 = operation .1 .1 in
+    hour-within : Standing file s → (k : ℕ) → k < s .hours → HourWithin (hourAt file k)
+    unfolding RunsRight hourAt
+    hour-within d k b =
+        let w = value-within s d in
+        let so2 = r .1 in
         let nox = so2 .1 in
         let co2 = nox .1 in
+        let flow = co2 .1 in
+        let operation = flow .1 in
+        let mass = operation .1 .1 in
+        let rate = mass .1 in
+        let tons = rate .1 in
         record {
-          time = value-within Operation n k 0 _ (omega arith) (omega arith) (operation .0 k b);
+          time = w Operation k 0 _ (omega arith) b (omega arith) (operation .0 k b);
           readings = record {
-            so2 = value-within So2Concentration n k 0 (15 + 41 * k) (omega arith) (omega arith) (h .each k (omega arith) b);
-            nox = value-within NoxConcentration n k 0 _ (omega arith) (omega arith) (l .0 k b);
-            co2 = value-within Co2Concentration n k 0 _ (omega arith) (omega arith) (two .0 k b);
-            flow = value-within VolumetricFlow n k 0 _ (omega arith) (omega arith) (flow .0 k b);
-            fc = value-within NoxRate n k 0 _ (omega arith) (omega arith) (nox .0 k b);
+            so2 = w So2Concentration k 0 _ (omega arith) b (omega arith) (so2 .0 k b);
+            nox = w NoxConcentration k 0 _ (omega arith) b (omega arith) (nox .0 k b);
+            co2 = w Co2Concentration k 0 _ (omega arith) b (omega arith) (co2 .0 k b);
+            flow = w VolumetricFlow k 0 _ (omega arith) b (omega arith) (flow .0 k b);
+            fc = w NoxRate k 0 _ (omega arith) b (omega arith) (rate .0 k b);
           };
           figures = record {
-            heat = value-within Operation n k 1 _ (omega arith) (omega arith) (operation .0 k b);
-            so2 = value-within So2Mass n k 0 _ (omega arith) (omega arith) (so2 .0 k b);
-            nox = value-within NoxRate n k 1 _ (omega arith) (omega arith) (nox .0 k b);
-            co2 = value-within Co2Mass n k 0 _ (omega arith) (omega arith) (co2 .0 k b);
+            heat = w Operation k 1 _ (omega arith) b (omega arith) (operation .0 k b);
+            so2 = w So2Mass k 0 _ (omega arith) b (omega arith) (mass .0 k b);
+            nox = w NoxRate k 1 _ (omega arith) b (omega arith) (rate .0 k b);
+            co2 = w Co2Mass k 0 _ (omega arith) b (omega arith) (tons .0 k b);
           };
         }
 
@@ -121,19 +136,20 @@ walked file ends r w = go (decLt 0 (length file))
         elim f [ zero ↦ walkHours first 2 0 [] (lines (drop (0 + (length first + 1)) file)) | suc c ↦ refusedAt (suc c) 1 ] ≡ Clean r → CleanFile file r
     after (suc f) e b v = never-clean (suc f) 1 r v
     after zero e b v =
-        let l : length first ≡ 14 = shape-length Facility first (facility-shape first e) in
-        let n : 0 + (length first + 1) ≡ 15 + 41 * 0 = omega arith in
+        let l : length first ≡ lengthOf Facility = shape-length Facility first (facility-shape first e) in
+        let n : 0 + (length first + 1) ≡ hourStart 0 = omega arith in
         let q = facility-quarter first e in
         let y = facility-year first e in
         let h =
-        hours-right file ends first q (lines (drop (15 + 41 * 0) file)) 2 0 0 [] r refl (omega (arith, line-within file 0 ends b)) refl (omega arith) (omega arith) (rw n at v)
+        hours-right file ends first q (lines (drop (hourStart 0) file)) 2 0 0 [] r refl (omega (arith, line-within file 0 ends b)) refl (omega arith) (omega arith) (rw n at v)
         in
+        let runs = whole-right file ends first r q (facility-first file ends first e b) h in
+        let s : Standing file (shape (r .hours)) = record { size = size-of file ends first (shape (r .hours)) runs; held = record { hours = h .most }; records = records-placed file ends first (shape (r .hours)) runs } in
         record {
-          size = size-of file ends first r q h;
-          most = h .most;
+          standing = s;
           year = rw (h .report .0) y;
           quarter = rw (h .report .1) q;
-          within = hour-within file ends first r q h;
+          within = hour-within file ends first (shape (r .hours)) runs s;
         }
 
     go : Dec (0 < length file) → CleanFile file r

@@ -8,14 +8,17 @@ use native.Mathlib.Omega.{arith}
 use native.Mathlib.Decide.{decLt}
 use native.Mathlib.Nat.{not-suc-le-zero, le-of-suc-le-suc}
 use lib.ListN.{length, take, drop, drop-of-length-le}
-use Rattle.edr.specs.Layout.{lengthOf, dateColumn, valuesOf}
-use Rattle.edr.specs.declared.layout.RecordType.{RecordType}
+use Rattle.layout.specs.Layout.{lengthOf, dateColumn, valuesOf, recordOf, linesOf, countOf, shape}
+use Rattle.layout.specs.declared.RecordType.{RecordType}
+use Rattle.layout.specs.declared.Run.{Run}
+use Rattle.layout.specs.declared.Shape.{Shape}
+use Rattle.layout.specs.declared.Run.the-variants.{Once, Hourly}
 use Rattle.reading.specs.Lines.{firstLine, lines, last}
 use Rattle.reading.specs.LineLaws.{lines-at, line-at}
-use Rattle.reading.specs.LineFaults.{_orElse_, shapeFault, stackFault, dateFault, valuesFault, Due, dueFault}
-use Rattle.reading.specs.FaultLaws.{or-zero, shape-length}
+use Rattle.reading.specs.LineFaults.{_orElse_, typeIs, shapeFault, stackFault, dateFault, valuesFault, Due, dueFault}
+use Rattle.reading.specs.FaultLaws.{or-zero, shape-type, shape-length}
 use Rattle.reading.specs.EndLaws.{line-within}
-use Rattle.reading.specs.Reading.{refusedAt, dueOf, runOf, runsOf, walkDue}
+use Rattle.reading.specs.Reading.{refusedAt, dueOf, datesOf, runOf, runsOf, walkDue}
 use Rattle.reading.specs.declared.Report.{Report}
 use Rattle.reading.specs.declared.Reading.{Reading}
 use Rattle.reading.specs.declared.Reading.the-variants.{Clean, Refused}
@@ -43,6 +46,10 @@ due-clean report facility line (d ∷ ds) (l ∷ ls) r e = go (dueFault facility
     go zero k w ih = let m = ih w in (m .0, (k, m .1))
     go (suc c) k w ih = never-clean (suc c) line r w
 
+due-type : (facility : List ℕ) (d : Due) (l : List ℕ) → dueFault facility d l ≡ 0 → typeIs (d .type) l ≡ true
+unfolding dueFault
+due-type facility d l e = shape-type (d .type) l (or-zero (shapeFault (d .type) l) _ e .0)
+
 due-length : (facility : List ℕ) (d : Due) (l : List ℕ) → dueFault facility d l ≡ 0 → length l ≡ lengthOf (d .type)
 unfolding dueFault
 due-length facility d l e = shape-length (d .type) l (or-zero (shapeFault (d .type) l) _ e .0)
@@ -53,37 +60,28 @@ due-values facility d l e =
     or-zero (dateFault (dateColumn (d .type)) (d .date) l) _
     (or-zero (stackFault facility l) _ (or-zero (shapeFault (d .type) l) _ e .1) .1) .1
 
--- the dates of a type's lines, and how many of them there are for n operating hours
-abbrev pub datesFor : RecordType → List (List ℕ) → List (List ℕ)
-datesFor t dates = elim (dateColumn t) [ zero ↦ [] ∷ [] | suc c ↦ dates ]
+-- the dates of a type's lines
+abbrev datesFor : RecordType → List (List ℕ) → List (List ℕ)
+datesFor t dates = datesOf (recordOf t .run) dates
 
-abbrev pub countFor : RecordType → ℕ → ℕ
-countFor t n = elim (dateColumn t) [ zero ↦ 1 | suc c ↦ n ]
-
-pub run-is : (t : RecordType) (dates : List (List ℕ)) → runOf t dates ≡ map (dueOf t) (datesFor t dates)
-unfolding runOf
-run-is t dates = go (dateColumn t)
+count-is : (t : RecordType) (dates : List (List ℕ)) → length (datesFor t dates) ≡ countOf (shape (length dates)) t
+count-is t dates = go (recordOf t .run)
   where
-    go : (c : ℕ) → elim c [ zero ↦ dueOf t [] ∷ [] | suc d ↦ map (dueOf t) dates ] ≡ map (dueOf t) (elim c [ zero ↦ [] ∷ [] | suc d ↦ dates ])
-    go zero = refl
-    go (suc c) = refl
-
-count-is : (t : RecordType) (dates : List (List ℕ)) → length (datesFor t dates) ≡ countFor t (length dates)
-count-is t dates = go (dateColumn t)
-  where
-    go : (c : ℕ) → length {A = List ℕ} (elim c [ zero ↦ [] ∷ [] | suc d ↦ dates ]) ≡ elim c [ zero ↦ 1 | suc d ↦ length dates ]
-    go zero = refl
-    go (suc c) = refl
+    go : (run : Run) → length (datesOf run dates) ≡ linesOf run (shape (length dates))
+    go Once = refl
+    go Hourly = refl
 
 module _ (file : List ℕ) (ends : last file ≡ 10) (facility : List ℕ) where
-  -- the line of a type at `at` has every value in its range
-  unfoldable pub LineRight : RecordType → ℕ → Type 0
-  LineRight t at = valuesFault (valuesOf t) (take (lengthOf t) (drop at file)) ≡ 0
+  -- the first of the lines from `at` on has the type and every value in its range; the others follow it
+  pub record LineRight (t : RecordType) (at : ℕ) : Type 0 where
+    pub type : typeIs t (take (lengthOf t) (drop at file)) ≡ true
+    pub next : lines (drop at file) ≡ take (lengthOf t) (drop at file) ∷ lines (drop (at + (lengthOf t + 1)) file)
+    pub values : valuesFault (valuesOf t) (take (lengthOf t) (drop at file)) ≡ 0
 
   -- the first of the lines that are due stands at `at`, and the others follow it
   first-due : (t : RecordType) (date : List ℕ) (ds : List Due) (at : ℕ) → Matches facility (dueOf t date ∷ ds) (lines (drop at file)) →
       LineRight t at × Matches facility ds (lines (drop (at + (lengthOf t + 1)) file)) × (at + (lengthOf t + 1) ≤ length file)
-  unfolding lines LineRight
+  unfolding lines
   first-due t date ds at m = go (decLt at (length file))
     where
       go : Dec (at < length file) → LineRight t at × Matches facility ds (lines (drop (at + (lengthOf t + 1)) file)) × (at + (lengthOf t + 1) ≤ length file)
@@ -92,8 +90,13 @@ module _ (file : List ℕ) (ends : last file ≡ 10) (facility : List ℕ) where
           absurd (rw (drop-of-length-le file k) at m)
       go (yes h) =
           let n = rw (lines-at file at h) at m in
-          let e = due-length facility (dueOf t date) (firstLine (drop at file)) (n .0) in (
-            rw (line-at file at (lengthOf t) e) at (due-values facility (dueOf t date) (firstLine (drop at file)) (n .0)),
+          let e = due-length facility (dueOf t date) (firstLine (drop at file)) (n .0) in
+          let l = line-at file at (lengthOf t) e in (
+            record {
+              type = rw l at (due-type facility (dueOf t date) (firstLine (drop at file)) (n .0));
+              next = rw (e, l) at (lines-at file at h);
+              values = rw l at (due-values facility (dueOf t date) (firstLine (drop at file)) (n .0));
+            },
             rw e at (n .1),
             omega (arith, line-within file at ends h),
           )
@@ -121,19 +124,19 @@ module _ (file : List ℕ) (ends : last file ≡ 10) (facility : List ℕ) where
           rw e at (q k (le-of-suc-le-suc h))
 
   -- the lines of types, one type after the other, to the end of the file
-  unfoldable pub RunsRight : List RecordType → ℕ → ℕ → Type 0
-  RunsRight [] n at = at ≡ length file
-  RunsRight (t ∷ ts) n at = ((k : ℕ) → k < countFor t n → LineRight t (at + (lengthOf t + 1) * k)) × RunsRight ts n (at + (lengthOf t + 1) * countFor t n)
+  unfoldable pub RunsRight : List RecordType → Shape → ℕ → Type 0
+  RunsRight [] s at = at ≡ length file
+  RunsRight (t ∷ ts) s at = ((k : ℕ) → k < countOf s t → LineRight t (at + (lengthOf t + 1) * k)) × RunsRight ts s (at + (lengthOf t + 1) * countOf s t)
 
   pub runs-right : (ts : List RecordType) (dates : List (List ℕ)) (at : ℕ) → at ≤ length file →
-      Matches facility (runsOf ts dates) (lines (drop at file)) → RunsRight ts (length dates) at
-  unfolding RunsRight runsOf lines
+      Matches facility (runsOf ts dates) (lines (drop at file)) → RunsRight ts (shape (length dates)) at
+  unfolding RunsRight runsOf runOf lines
   runs-right [] dates at b m = go (decLt at (length file))
     where
       go : Dec (at < length file) → at ≡ length file
       go (yes h) = absurd (rw (lines-at file at h) at m)
       go (no h) = omega arith
   runs-right (t ∷ ts) dates at b m =
-      let r = run-right t (datesFor t dates) (runsOf ts dates) at b (rw (run-is t dates) at m) in
+      let r = run-right t (datesFor t dates) (runsOf ts dates) at b m in
       let c = count-is t dates in
-      (rw c at (r .0), runs-right ts dates (at + (lengthOf t + 1) * countFor t (length dates)) (rw c at (r .2)) (rw c at (r .1)))
+      (rw c at (r .0), runs-right ts dates (at + (lengthOf t + 1) * countOf (shape (length dates)) t) (rw c at (r .2)) (rw c at (r .1)))

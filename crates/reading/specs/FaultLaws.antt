@@ -17,9 +17,9 @@ use Rattle.columns.specs.Number.{fieldOf, numberOf}
 use Rattle.columns.specs.Written.{digitsOf}
 use Rattle.columns.specs.declared.Field.{Field}
 use Rattle.columns.specs.declared.Field.the-variants.{Blank, Malformed, Number}
-use Rattle.edr.specs.Layout.{codeOf, lengthOf, Within}
-use Rattle.edr.specs.declared.layout.RecordType.{RecordType}
-use Rattle.edr.specs.declared.layout.Value.{Value}
+use Rattle.layout.specs.Layout.{codeOf, lengthOf, Within}
+use Rattle.layout.specs.declared.RecordType.{RecordType}
+use Rattle.layout.specs.declared.Value.{Value}
 use Rattle.reading.specs.LineFaults.{_orElse_, unless, typeIs, shapeFault, fieldFault, fieldIn, valuesFault}
 
 pub or-zero : (a b : ℕ) → a orElse b ≡ 0 → (a ≡ 0) × (b ≡ 0)

@@ -14,16 +14,17 @@ use borrow.Author.Tests.{leb-true}
 use Rattle.calendar.specs.Calendar.{IsQuarter}
 use Rattle.calendar.specs.declared.QuarterHour.{QuarterHour}
 use Rattle.calendar.specs.declared.QuarterHour.the-variants.{At, Outside}
-use Rattle.edr.specs.Layout.{valuesOf}
-use Rattle.edr.specs.Stamp.{stampHour}
-use Rattle.edr.specs.StampLaws.{stamp-below}
-use Rattle.edr.specs.declared.layout.RecordType.the-variants.{So2Concentration}
+use Rattle.layout.specs.Layout.{lengthOf, valuesOf, shape}
+use Rattle.stamp.specs.Stamp.{stampHour}
+use Rattle.stamp.specs.StampLaws.{stamp-below}
+use Rattle.layout.specs.declared.RecordType.the-variants.{So2Concentration}
 use Rattle.reading.specs.Lines.{firstLine, lines, last}
 use Rattle.reading.specs.LineLaws.{lines-at, line-at}
 use Rattle.reading.specs.LineFaults.{_orElse_, unless, typeIs, shapeFault, stackFault, valuesFault, yearOn, quarterOn, risingFault, dateOn, hourOn, hourFault}
-use Rattle.reading.specs.FaultLaws.{or-zero, unless-zero, shape-length}
+use Rattle.reading.specs.FaultLaws.{or-zero, unless-zero, shape-type, shape-length}
 use Rattle.reading.specs.EndLaws.{line-within}
 use Rattle.reading.specs.Reading.{refusedAt, laterTypes, runsOf, reportOf, walkLater, hourAfter, walkHours}
+use Rattle.reading.specs.Places.{hourStart}
 use Rattle.reading.specs.CleanLaws.{never-clean, due-clean, LineRight, RunsRight, runs-right}
 use Rattle.reading.specs.declared.Report.{Report}
 use Rattle.reading.specs.declared.Reading.{Reading}
@@ -54,16 +55,16 @@ module _ (file : List ℕ) (ends : last file ≡ 10) (facility : List ℕ) (quar
     pub report : (r .year ≡ yearOn facility) × (r .quarter ≡ quarterOn facility)
     pub more : k ≤ r .hours
     pub most : r .hours ≤ 2208
-    pub each : (j : ℕ) → k ≤ j → j < r .hours → LineRight file ends facility So2Concentration (15 + 41 * j)
-    pub later : RunsRight file ends facility laterTypes (r .hours) (15 + 41 * r .hours)
+    pub each : (j : ℕ) → k ≤ j → j < r .hours → LineRight file ends facility So2Concentration (hourStart j)
+    pub later : RunsRight file ends facility laterTypes (shape (r .hours)) (hourStart (r .hours))
 
-  after-hours : (line k : ℕ) (dates ls : List (List ℕ)) (r : Report) → lines (drop (15 + 41 * k) file) ≡ ls → 15 + 41 * k ≤ length file → length dates ≡ k → k ≤ 2208 →
+  after-hours : (line k : ℕ) (dates ls : List (List ℕ)) (r : Report) → lines (drop (hourStart k) file) ≡ ls → hourStart k ≤ length file → length dates ≡ k → k ≤ 2208 →
       walkLater facility line dates ls ≡ Clean r → HoursRight k r
   unfolding walkLater
   after-hours line k dates ls r e b l m w =
       let d = due-clean (reportOf facility dates) facility line (runsOf laterTypes dates) ls r w in
       let n : r .hours ≡ k = ap (λ (x : Report). x .hours) (sym (d .0)) ∙ l in
-      let q = runs-right file ends facility laterTypes dates (15 + 41 * k) b (rw e (d .1)) in
+      let q = runs-right file ends facility laterTypes dates (hourStart k) b (rw e (d .1)) in
       record {
         report = (ap (λ (x : Report). x .year) (sym (d .0)), ap (λ (x : Report). x .quarter) (sym (d .0)));
         more = omega arith;
@@ -80,29 +81,35 @@ module _ (file : List ℕ) (ends : last file ≡ 10) (facility : List ℕ) (quar
       omega arith
 
   -- a 200 line without fault stands in its place, and the lines that follow it in theirs
-  stands : (x : List ℕ) (ls : List (List ℕ)) (from k : ℕ) → lines (drop (15 + 41 * k) file) ≡ x ∷ ls → hourFault facility from x ≡ 0 →
-      (x ≡ take 40 (drop (15 + 41 * k) file)) × (lines (drop (15 + 41 * suc k) file) ≡ ls) × (15 + 41 * suc k ≤ length file)
-  stands x ls from k e f = go (decLt (15 + 41 * k) (length file))
+  stands : (x : List ℕ) (ls : List (List ℕ)) (from k : ℕ) → lines (drop (hourStart k) file) ≡ x ∷ ls → hourFault facility from x ≡ 0 →
+      LineRight file ends facility So2Concentration (hourStart k) × (lines (drop (hourStart (suc k)) file) ≡ ls) × (hourStart (suc k) ≤ length file)
+  stands x ls from k e f = go (decLt (hourStart k) (length file))
     where
       at : ℕ
-      at = 15 + 41 * k
+      at = hourStart k
 
-      go : Dec (15 + 41 * k < length file) → (x ≡ take 40 (drop (15 + 41 * k) file)) × (lines (drop (15 + 41 * suc k) file) ≡ ls) × (15 + 41 * suc k ≤ length file)
+      go : Dec (hourStart k < length file) → LineRight file ends facility So2Concentration (hourStart k) × (lines (drop (hourStart (suc k)) file) ≡ ls) × (hourStart (suc k) ≤ length file)
       go (no h) = absurd (nothing-left at x ls e (omega arith))
       go (yes h) =
           let m = lines-at file at h in
           let a : firstLine (drop at file) ≡ x = cc in
-          let l : length (firstLine (drop at file)) ≡ 40 = rw a (shape-length So2Concentration x (hour-shape facility from x f)) in
-          let n : at + (length (firstLine (drop at file)) + 1) ≡ 15 + 41 * suc k = omega arith in
-          let b : lines (drop (at + (length (firstLine (drop at file)) + 1)) file) ≡ ls = cc in (
-            sym a ∙ line-at file at 40 l,
+          let l : length (firstLine (drop at file)) ≡ lengthOf So2Concentration = rw a (shape-length So2Concentration x (hour-shape facility from x f)) in
+          let n : at + (length (firstLine (drop at file)) + 1) ≡ hourStart (suc k) = omega arith in
+          let b : lines (drop (at + (length (firstLine (drop at file)) + 1)) file) ≡ ls = cc in
+          let t = line-at file at (lengthOf So2Concentration) l in
+          let s : x ≡ take (lengthOf So2Concentration) (drop at file) = sym a ∙ t in (
+            record {
+              type = rw s at (shape-type So2Concentration x (hour-shape facility from x f));
+              next = rw (l, t) at m;
+              values = rw s at (hour-rest facility from x f .1);
+            },
             rw n at b,
             omega (arith, line-within file at ends h),
           )
 
-  pub hours-right : (ls : List (List ℕ)) (line from k : ℕ) (dates : List (List ℕ)) (r : Report) → lines (drop (15 + 41 * k) file) ≡ ls → 15 + 41 * k ≤ length file →
+  pub hours-right : (ls : List (List ℕ)) (line from k : ℕ) (dates : List (List ℕ)) (r : Report) → lines (drop (hourStart k) file) ≡ ls → hourStart k ≤ length file →
       length dates ≡ k → k ≤ from → from ≤ 2208 → walkHours facility line from dates ls ≡ Clean r → HoursRight k r
-  unfolding walkHours LineRight
+  unfolding walkHours
   hours-right [] line from k dates r e b l p q w = after-hours line k dates [] r e b l (omega arith) w
   hours-right (x ∷ ls) line from k dates r e b l p q w =
       go (typeIs So2Concentration x) w (hourFault facility from x) refl
@@ -113,7 +120,7 @@ module _ (file : List ℕ) (ends : last file ≡ 10) (facility : List ℕ) (quar
 
       go : (t : Bool) → elim t [ false ↦ walkLater facility line dates (x ∷ ls) | true ↦ elim (hourFault facility from x) [ zero ↦ next | suc c ↦ refusedAt (suc c) line ] ] ≡ Clean r →
           (f : ℕ) → hourFault facility from x ≡ f →
-          (lines (drop (15 + 41 * suc k) file) ≡ ls → 15 + 41 * suc k ≤ length file → suc k ≤ hourAfter (hourOn facility x) → hourAfter (hourOn facility x) ≤ 2208 → next ≡ Clean r → HoursRight (suc k) r) → HoursRight k r
+          (lines (drop (hourStart (suc k)) file) ≡ ls → hourStart (suc k) ≤ length file → suc k ≤ hourAfter (hourOn facility x) → hourAfter (hourOn facility x) ≤ 2208 → next ≡ Clean r → HoursRight (suc k) r) → HoursRight k r
       go false v f g ih = after-hours line k dates (x ∷ ls) r e b l (omega arith) v
       go true v (suc f) g ih = never-clean (suc f) line r (rw g at v)
       go true v zero g ih =
@@ -124,6 +131,6 @@ module _ (file : List ℕ) (ends : last file ≡ 10) (facility : List ℕ) (quar
             report = h .report;
             more = omega arith;
             most = h .most;
-            each = λ j a c. ⊎-elim (λ z. rw (← z) (rw (s .0) at (hour-rest facility from x g .1))) (λ z. h .each j z c) (eq-or-lt-of-le a);
+            each = λ j a c. ⊎-elim (λ z. rw (← z) (s .0)) (λ z. h .each j z c) (eq-or-lt-of-le a);
             later = h .later;
           }

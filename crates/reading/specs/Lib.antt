@@ -4,10 +4,11 @@ pub mod LineFaults
 pub mod FaultLaws
 pub mod EndLaws
 pub mod Reading
-pub mod CleanLaws
-pub mod HoursLaws
 pub mod Recorded
 pub mod Places
+pub mod CleanLaws
+pub mod HoursLaws
+pub mod RunLaws
+pub mod RecordLaws
 pub mod CleanFile
-pub mod CountLaws
 pub mod RefusalLaws

@@ -13,11 +13,11 @@ use Rattle.columns.specs.declared.Field.{Field}
 use Rattle.columns.specs.declared.Field.the-variants.{Blank, Malformed, Number}
 use Rattle.calendar.specs.declared.QuarterHour.{QuarterHour}
 use Rattle.calendar.specs.declared.QuarterHour.the-variants.{At, Outside}
-use Rattle.edr.specs.Layout.{typeWidth, stackStart, stackWidth, yearDigits, quarterDigit, codeOf, lengthOf, dateColumn, valuesOf}
-use Rattle.edr.specs.Stamp.{stampHour}
-use Rattle.edr.specs.declared.layout.RecordType.{RecordType}
-use Rattle.edr.specs.declared.layout.RecordType.the-variants.{Facility, So2Concentration}
-use Rattle.edr.specs.declared.layout.Value.{Value}
+use Rattle.layout.specs.Layout.{typeWidth, stackStart, stackWidth, yearDigits, quarterDigit, codeOf, lengthOf, dateColumn, valuesOf}
+use Rattle.stamp.specs.Stamp.{stampHour}
+use Rattle.layout.specs.declared.RecordType.{RecordType}
+use Rattle.layout.specs.declared.RecordType.the-variants.{Facility, So2Concentration}
+use Rattle.layout.specs.declared.Value.{Value}
 
 infixr 40 _orElse_
 -- the first fault of two

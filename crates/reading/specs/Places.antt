@@ -6,16 +6,20 @@ use mathlib.Core.Path.{_≡_}
 use mathlib.Core.List.{List, [], _∷_, _++_}
 use mathlib.Core.Bool.{Bool, _&&_}
 use lib.Dec.{eqb}
-use lib.ListN.{length, take, getD}
+use lib.ListN.{length, take, drop, getD}
 use Rattle.columns.specs.Bytes.{isPrintable, all}
 use Rattle.columns.specs.Columns.{columns}
 use Rattle.calendar.specs.Calendar.{IsQuarter}
-use Rattle.edr.specs.Layout.{dateColumn}
-use Rattle.edr.specs.declared.layout.RecordType.{RecordType}
-use Rattle.edr.specs.declared.layout.RecordType.the-variants.{Facility}
-use Rattle.edr.specs.declared.layout.Value.{Value}
+use Rattle.layout.specs.Layout.{recordOf, lengthOf, dateColumn, countOf, lineOf, offsetOf, reportLength, Held, shape}
+use Rattle.layout.specs.declared.RecordType.{RecordType}
+use Rattle.layout.specs.declared.RecordType.the-variants.{Facility, So2Concentration}
+use Rattle.layout.specs.declared.Run.{Run}
+use Rattle.layout.specs.declared.Run.the-variants.{Once, Hourly}
+use Rattle.layout.specs.declared.Shape.{Shape}
+use Rattle.layout.specs.declared.Value.{Value}
 use Rattle.reading.specs.LineFaults.{yearOn, quarterOn}
 use Rattle.reading.specs.Reading.{laterTypes}
+use Rattle.reading.specs.Recorded.{Line, recordsOf}
 
 -- what is left begins with so many printable bytes and byte 10
 unfoldable pub isLine : ℕ → List ℕ → Bool
@@ -30,17 +34,21 @@ pub record Placed (v : Value) (long : ℕ) : Type 0 where
 
 -- year and quarter as a facility line without fault has them
 pub record Heads (facility : List ℕ) (y q : ℕ) : Type 0 where
-  pub long : 14 ≤ length facility
+  pub long : lengthOf Facility ≤ length facility
   pub year : y ≡ yearOn facility
   pub quarter : q ≡ quarterOn facility
   pub valid : IsQuarter q
 
 abbrev pub facilityOf : List ℕ → List ℕ
-facilityOf file = take 14 file
+facilityOf file = take (lengthOf Facility) file
 
--- date and hour of the 200 line of rank r: its column 16, behind a facility line of 15 bytes and r lines of 41
+-- where the 200 line of rank r starts, in bytes
+abbrev pub hourStart : ℕ → ℕ
+hourStart r = offsetOf (shape r) So2Concentration r
+
+-- its date and hour
 abbrev pub dateIn : List ℕ → ℕ → List ℕ
-dateIn file r = columns (31 + 41 * r) 8 file
+dateIn file r = columns (hourStart r + dateColumn So2Concentration) 8 file
 
 -- of the first n
 unfoldable pub datesIn : List ℕ → ℕ → List (List ℕ)
@@ -50,16 +58,32 @@ datesIn file (suc n) = datesIn file n ++ (dateIn file n ∷ [])
 -- n 200 lines are read
 pub record Counted (file : List ℕ) (n : ℕ) : Type 0 where
   pub most : n ≤ 2208
-  pub room : 14 + 41 * n ≤ length file
+  pub room : hourStart n ≤ length file + 1
 
 -- the later types by their place
 abbrev pub laterType : ℕ → RecordType
 laterType place = getD laterTypes place Facility
 
--- how many lines of a type there are
-unfoldable pub runLength : RecordType → ℕ → ℕ
-runLength t n = elim (dateColumn t) [ zero ↦ 1 | suc c ↦ n ]
-
 -- the date and hour that the line of rank k of a type must have
+abbrev pub dateFor : Run → List ℕ → ℕ → List ℕ
+dateFor Once file k = []
+dateFor Hourly file k = dateIn file k
+
 unfoldable pub dateDue : List ℕ → RecordType → ℕ → List ℕ
-dateDue file t k = elim (dateColumn t) [ zero ↦ [] | suc c ↦ dateIn file k ]
+dateDue file t k = dateFor (recordOf t .run) file k
+
+-- so many lines of a type from this place of the file on
+unfoldable pub linesAt : List ℕ → RecordType → (at : ℕ) → ℕ → List (List ℕ)
+linesAt file t at zero = []
+linesAt file t at (suc m) = take (lengthOf t) (drop at file) ∷ linesAt file t (at + (lengthOf t + 1)) m
+
+-- lines that follow each other, the first of them with this number
+unfoldable pub numbered : ℕ → List (List ℕ) → List Line
+numbered number [] = []
+numbered number (l ∷ ls) = record { number = number; text = l } ∷ numbered (suc number) ls
+
+-- the records of a file of a shape stand where the layout has them
+pub record Standing (file : List ℕ) (s : Shape) : Type 0 where
+  pub size : length file ≡ reportLength s
+  pub held : Held s
+  pub records : (t : RecordType) → recordsOf file t ≡ numbered (lineOf s t 0) (linesAt file t (offsetOf s t 0) (countOf s t))

@@ -7,9 +7,11 @@ use lib.Dec.{eqb}
 use lib.ListN.{length}
 use Rattle.calendar.specs.declared.QuarterHour.{QuarterHour}
 use Rattle.calendar.specs.declared.QuarterHour.the-variants.{At, Outside}
-use Rattle.edr.specs.Layout.{dateColumn}
-use Rattle.edr.specs.declared.layout.RecordType.{RecordType}
-use Rattle.edr.specs.declared.layout.RecordType.the-variants.{So2Concentration, NoxConcentration, Co2Concentration, VolumetricFlow, Operation, QuarterTotals, So2Mass, NoxRate, Co2Mass}
+use Rattle.layout.specs.Layout.{recordOf, later}
+use Rattle.layout.specs.declared.RecordType.{RecordType}
+use Rattle.layout.specs.declared.RecordType.the-variants.{So2Concentration}
+use Rattle.layout.specs.declared.Run.{Run}
+use Rattle.layout.specs.declared.Run.the-variants.{Once, Hourly}
 use Rattle.reading.specs.Lines.{lines, last}
 use Rattle.reading.specs.LineFaults.{typeIs, yearOn, quarterOn, facilityFault, dateOn, hourOn, hourFault, Due, dueFault}
 use Rattle.reading.specs.declared.Report.{Report}
@@ -23,14 +25,18 @@ refusedAt number line = Refused (record { number = number; line = line })
 -- the lines that follow 200 lines of these dates and hours
 
 abbrev pub laterTypes : List RecordType
-laterTypes = NoxConcentration ∷ Co2Concentration ∷ VolumetricFlow ∷ Operation ∷ QuarterTotals ∷ So2Mass ∷ NoxRate ∷ Co2Mass ∷ []
+laterTypes = later So2Concentration
 
 abbrev pub dueOf : RecordType → List ℕ → Due
 dueOf t date = record { type = t; date = date }
 
--- one line for each date; a type without dates has one line
+-- one line for each date, or one line that has none
+abbrev pub datesOf : Run → List (List ℕ) → List (List ℕ)
+datesOf Once dates = [] ∷ []
+datesOf Hourly dates = dates
+
 unfoldable pub runOf : RecordType → List (List ℕ) → List Due
-runOf t dates = elim (dateColumn t) [ zero ↦ dueOf t [] ∷ [] | suc c ↦ map (dueOf t) dates ]
+runOf t dates = map (dueOf t) (datesOf (recordOf t .run) dates)
 
 unfoldable pub runsOf : List RecordType → List (List ℕ) → List Due
 runsOf [] dates = []

@@ -1,62 +1,79 @@
--- The recorded values of a file whose lines are right, where the layout has them.
+-- What the lines of a report say: the records of each type in file order, each with its line, and the hours and totals recorded on them.
 -- Assumes nothing.
-use Prim.Native.Nat.{ℕ, zero, suc, _+_}
+use Prim.Native.Nat.{ℕ, zero, suc}
 use mathlib.Core.List.{List, [], _∷_}
-use mathlib.Core.Bool.{cond}
-use Rattle.columns.specs.Columns.{columns}
-use Rattle.columns.specs.Number.{fieldOf, numberOf}
-use Rattle.edr.specs.Layout.{valueAt, offsetOf}
-use Rattle.edr.specs.declared.layout.RecordType.{RecordType}
-use Rattle.edr.specs.declared.layout.RecordType.the-variants.{So2Concentration, NoxConcentration, Co2Concentration, VolumetricFlow, Operation, QuarterTotals, So2Mass, NoxRate, Co2Mass}
-use Rattle.edr.specs.declared.hour.Hour.{Hour}
-use Rattle.edr.specs.declared.totals.Quarter.{Quarter}
-use Rattle.reading.specs.LineFaults.{typeIs}
+use mathlib.Core.Bool.{Bool, true, false}
+use lib.ListN.{length, getD}
+use Rattle.columns.specs.Number.{numberOf}
+use Rattle.layout.specs.Layout.{valueAt}
+use Rattle.layout.specs.declared.RecordType.{RecordType}
+use Rattle.layout.specs.declared.RecordType.the-variants.{So2Concentration, NoxConcentration, Co2Concentration, VolumetricFlow, Operation, QuarterTotals, So2Mass, NoxRate, Co2Mass}
+use Rattle.formulas.specs.declared.hour.Hour.{Hour}
+use Rattle.totals.specs.declared.Quarter.{Quarter}
+use Rattle.reading.specs.Lines.{lines}
+use Rattle.reading.specs.LineFaults.{typeIs, fieldIn}
 
--- how many 200 lines there are
-unfoldable pub hourLines : List (List ℕ) → ℕ
-hourLines [] = 0
-hourLines (l ∷ ls) = cond (typeIs So2Concentration l) 1 0 + hourLines ls
+-- a line of a file: its place among the lines, from 1, and its columns
+pub record Line : Type 0 where
+  pub number : ℕ
+  pub text : List ℕ
 
--- the i-th value of the record of rank k of a type, in a file of n operating hours
-unfoldable pub valueIn : List ℕ → ℕ → RecordType → ℕ → ℕ → ℕ
-valueIn file n t k i =
-    let v = valueAt t i in
-    numberOf (fieldOf (v .decimals) (columns (offsetOf n t k + v .start) (v .width) file))
+-- the lines that pass a test, in file order; the first of all has this number
+unfoldable pub linesWith : (List ℕ → Bool) → ℕ → List (List ℕ) → List Line
+linesWith test number [] = []
+linesWith test number (l ∷ ls) =
+    elim (test l) [ true ↦ record { number = number; text = l } ∷ linesWith test (suc number) ls | false ↦ linesWith test (suc number) ls ]
 
--- operating hour k, from 0
-unfoldable pub hourAt : List ℕ → ℕ → ℕ → Hour
-hourAt file n k = record {
-  time = valueIn file n Operation k 0;
+-- the records of a type
+unfoldable pub recordsOf : List ℕ → RecordType → List Line
+recordsOf file t = linesWith (typeIs t) 1 (lines file)
+
+-- the record of rank k, from 0
+abbrev pub recordAt : List ℕ → RecordType → ℕ → Line
+recordAt file t k = getD (recordsOf file t) k (record { number = 0; text = [] })
+
+-- its i-th value, from its columns
+unfoldable pub valueOn : List ℕ → RecordType → ℕ → ℕ → ℕ
+valueOn file t k i = numberOf (fieldIn (valueAt t i) (recordAt file t k .text))
+
+-- operating hour k, from 0: what the record of that rank of each type says
+unfoldable pub hourAt : List ℕ → ℕ → Hour
+hourAt file k = record {
+  time = valueOn file Operation k 0;
   readings = record {
-    so2 = valueIn file n So2Concentration k 0;
-    nox = valueIn file n NoxConcentration k 0;
-    co2 = valueIn file n Co2Concentration k 0;
-    flow = valueIn file n VolumetricFlow k 0;
-    fc = valueIn file n NoxRate k 0;
+    so2 = valueOn file So2Concentration k 0;
+    nox = valueOn file NoxConcentration k 0;
+    co2 = valueOn file Co2Concentration k 0;
+    flow = valueOn file VolumetricFlow k 0;
+    fc = valueOn file NoxRate k 0;
   };
   figures = record {
-    heat = valueIn file n Operation k 1;
-    so2 = valueIn file n So2Mass k 0;
-    nox = valueIn file n NoxRate k 1;
-    co2 = valueIn file n Co2Mass k 0;
+    heat = valueOn file Operation k 1;
+    so2 = valueOn file So2Mass k 0;
+    nox = valueOn file NoxRate k 1;
+    co2 = valueOn file Co2Mass k 0;
   };
 }
 
 -- so many hours from k on
-unfoldable pub hoursFrom : List ℕ → ℕ → ℕ → ℕ → List Hour
-hoursFrom file n k zero = []
-hoursFrom file n k (suc left) = hourAt file n k ∷ hoursFrom file n (suc k) left
+unfoldable pub hoursFrom : List ℕ → ℕ → ℕ → List Hour
+hoursFrom file k zero = []
+hoursFrom file k (suc left) = hourAt file k ∷ hoursFrom file (suc k) left
+
+-- as many as there are 200 lines
+abbrev pub hourCount : List ℕ → ℕ
+hourCount file = length (recordsOf file So2Concentration)
 
 -- in file order
-unfoldable pub hoursOf : List ℕ → ℕ → List Hour
-hoursOf file n = hoursFrom file n 0 n
+unfoldable pub hoursOf : List ℕ → List Hour
+hoursOf file = hoursFrom file 0 (hourCount file)
 
 -- what line 301 says
-unfoldable pub totalsIn : List ℕ → ℕ → Quarter
-totalsIn file n = record {
-  hours = n;
-  so2 = valueIn file n QuarterTotals 0 0;
-  co2 = valueIn file n QuarterTotals 0 1;
-  heat = valueIn file n QuarterTotals 0 2;
-  nox = valueIn file n QuarterTotals 0 3;
+unfoldable pub totalsIn : List ℕ → Quarter
+totalsIn file = record {
+  hours = hourCount file;
+  so2 = valueOn file QuarterTotals 0 0;
+  co2 = valueOn file QuarterTotals 0 1;
+  heat = valueOn file QuarterTotals 0 2;
+  nox = valueOn file QuarterTotals 0 3;
 }

@@ -14,10 +14,10 @@ use Rattle.columns.specs.declared.Field.{Field}
 use Rattle.columns.specs.declared.Field.the-variants.{Blank, Malformed, Number}
 use Rattle.calendar.specs.declared.QuarterHour.{QuarterHour}
 use Rattle.calendar.specs.declared.QuarterHour.the-variants.{At, Outside}
-use Rattle.edr.specs.Layout.{lengthOf, dateColumn, valuesOf}
-use Rattle.edr.specs.declared.layout.RecordType.{RecordType}
-use Rattle.edr.specs.declared.layout.RecordType.the-variants.{Facility, So2Concentration}
-use Rattle.edr.specs.declared.layout.Value.{Value}
+use Rattle.layout.specs.Layout.{lengthOf, dateColumn, valuesOf}
+use Rattle.layout.specs.declared.RecordType.{RecordType}
+use Rattle.layout.specs.declared.RecordType.the-variants.{Facility, So2Concentration}
+use Rattle.layout.specs.declared.Value.{Value}
 use Rattle.reading.specs.Lines.{lines, last}
 use Rattle.reading.specs.LineFaults.{_orElse_, unless, typeIs, shapeFault, stackOf, stackFault, fieldFault, fieldIn, valuesFault, numberWithin, yearField, quarterField, facilityFault, risingFault, dateOn, hourOn, hourFault, Due, dateFault, dueFault}
 use Rattle.reading.specs.Reading.{refusedAt, laterTypes, runsOf, reportOf, walkDue, walkLater, hourAfter, walkHours, walk, readOf}

@@ -2,14 +2,12 @@
 use crate::lines;
 use calendar::QuarterHour;
 use columns::Field;
-use edr::layout;
-use edr::layout::RecordType;
-use edr::layout::Value;
-use edr::stamp;
+use layout::RecordType;
+use layout::Value;
 ghost use mathlib.Core.Path.{_≡_};
 ghost use Prim.Native.Nat.{_≤_};
 ghost use lib.ListN.{length};
-ghost use Rattle.edr.specs.Layout.{lengthOf, valuesOf, dateColumn};
+ghost use Rattle.layout.specs.Layout.{lengthOf, valuesOf, dateColumn};
 ghost use Rattle.reading.specs.Lines.{firstLine};
 ghost use Rattle.reading.specs.LineFaults.{
   stackFault,
@@ -26,11 +24,17 @@ ghost use Rattle.reading.specs.LineFaults.{
 ghost use Rattle.reading.specs.Reading.{dueOf};
 ghost use Rattle.reading.specs.Places.{Placed, Heads};
 
+// Where the stack name starts, in bytes.
+const STACK_FROM: usize = layout::STACK_START - 1;
+
 fn stack_fault(facility: &[u8], line: &[u8]) -> u64
     requires { ⌜ (9 ≤ length (now facility)) × (9 ≤ length (now line)) ⌝ }
     ensures { λ r. ⌜ r ≡ stackFault (now (facility .entry)) (now (line .entry)) ⌝ }
 {
-    if columns::same_bytes(&line[3..9], &facility[3..9]) {
+    if columns::same_bytes(
+        &line[STACK_FROM..layout::STACK_END],
+        &facility[STACK_FROM..layout::STACK_END],
+    ) {
         return 0;
     }
     5
@@ -117,8 +121,8 @@ pub fn facility_fault(rest: &[u8]) -> u64
     if fault != 0 {
         return fault;
     }
-    let line = &rest[..14];
-    if columns::all_blank(&line[3..9]) {
+    let line = &rest[..layout::FACILITY_LENGTH];
+    if columns::all_blank(&line[STACK_FROM..layout::STACK_END]) {
         return 5;
     }
     if !number_within(
@@ -157,12 +161,15 @@ pub fn hour_fault(facility: &[u8], year: u64, quarter: u64, from: u64, rest: &[u
     if shape != 0 {
         return shape;
     }
-    let line = &rest[..40];
+    let line = &rest[..layout::SO2_LENGTH];
     let stack = stack_fault(facility, line);
     if stack != 0 {
         return stack;
     }
-    let rising = rising_fault(from, stamp::read_stamp(line, 16, year, quarter));
+    let rising = rising_fault(
+        from,
+        stamp::read_stamp(line, layout::SO2_DATE, year, quarter),
+    );
     if rising != 0 {
         return rising;
     }

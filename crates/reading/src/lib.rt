@@ -4,16 +4,17 @@ mod lines;
 mod recorded;
 mod walk;
 
-use edr::hour::Figures;
-use edr::hour::Hour;
-use edr::hour::Readings;
-use edr::layout::RecordType;
-use edr::totals::Quarter;
+use formulas::hour::Figures;
+use formulas::hour::Hour;
+use formulas::hour::Readings;
+use layout::RecordType;
+use layout::Shape;
+use totals::Quarter;
 ghost use mathlib.Core.Path.{_≡_};
-ghost use Prim.Native.Nat.{_+_, _*_, _≤_, _<_};
-ghost use lib.ListN.{length};
+ghost use Prim.Native.Nat.{_<_};
 ghost use Rattle.reading.specs.Reading.{readOf};
 ghost use Rattle.reading.specs.Recorded.{hourAt, totalsIn};
+ghost use Rattle.reading.specs.Places.{Standing};
 
 // A report whose lines are right. Its operating hours are its 200 lines.
 pub struct Report {
@@ -51,39 +52,39 @@ pub fn read(file: &[u8]) -> Reading
     walk::walk_hours(file)
 }
 
-// Operating hour k, from 0, of a file of n whose lines are right.
-pub fn hour(file: &[u8], n: usize, k: usize) -> Hour
-    requires { ⌜ (64 + 318 * n ≤ length (now file)) × (n ≤ 2208) × (k < n) ⌝ }
-    ensures { λ r. ⌜ r ≡ hourAt (now (file .entry)) n k ⌝ }
+// Operating hour k, from 0, of a file of a shape whose lines are right.
+pub fn hour(file: &[u8], s: Shape, k: usize) -> Hour
+    requires { ⌜ Standing (now file) s × (k < s .hours) ⌝ }
+    ensures { λ r. ⌜ r ≡ hourAt (now (file .entry)) k ⌝ }
 {
     Hour {
-        time: recorded::value_in(file, n, RecordType::Operation, k, 0),
+        time: recorded::value_in(file, s, RecordType::Operation, k, 0),
         readings: Readings {
-            so2: recorded::value_in(file, n, RecordType::So2Concentration, k, 0),
-            nox: recorded::value_in(file, n, RecordType::NoxConcentration, k, 0),
-            co2: recorded::value_in(file, n, RecordType::Co2Concentration, k, 0),
-            flow: recorded::value_in(file, n, RecordType::VolumetricFlow, k, 0),
-            fc: recorded::value_in(file, n, RecordType::NoxRate, k, 0),
+            so2: recorded::value_in(file, s, RecordType::So2Concentration, k, 0),
+            nox: recorded::value_in(file, s, RecordType::NoxConcentration, k, 0),
+            co2: recorded::value_in(file, s, RecordType::Co2Concentration, k, 0),
+            flow: recorded::value_in(file, s, RecordType::VolumetricFlow, k, 0),
+            fc: recorded::value_in(file, s, RecordType::NoxRate, k, 0),
         },
         figures: Figures {
-            heat: recorded::value_in(file, n, RecordType::Operation, k, 1),
-            so2: recorded::value_in(file, n, RecordType::So2Mass, k, 0),
-            nox: recorded::value_in(file, n, RecordType::NoxRate, k, 1),
-            co2: recorded::value_in(file, n, RecordType::Co2Mass, k, 0),
+            heat: recorded::value_in(file, s, RecordType::Operation, k, 1),
+            so2: recorded::value_in(file, s, RecordType::So2Mass, k, 0),
+            nox: recorded::value_in(file, s, RecordType::NoxRate, k, 1),
+            co2: recorded::value_in(file, s, RecordType::Co2Mass, k, 0),
         },
     }
 }
 
-// The totals on line 301 of a file of n operating hours whose lines are right.
-pub fn totals(file: &[u8], n: usize) -> Quarter
-    requires { ⌜ (64 + 318 * n ≤ length (now file)) × (n ≤ 2208) ⌝ }
-    ensures { λ r. ⌜ r ≡ totalsIn (now (file .entry)) n ⌝ }
+// The totals on line 301 of a file of a shape whose lines are right.
+pub fn totals(file: &[u8], s: Shape) -> Quarter
+    requires { ⌜ Standing (now file) s ⌝ }
+    ensures { λ r. ⌜ r ≡ totalsIn (now (file .entry)) ⌝ }
 {
     Quarter {
-        hours: n as u64,
-        so2: recorded::value_in(file, n, RecordType::QuarterTotals, 0, 0),
-        co2: recorded::value_in(file, n, RecordType::QuarterTotals, 0, 1),
-        heat: recorded::value_in(file, n, RecordType::QuarterTotals, 0, 2),
-        nox: recorded::value_in(file, n, RecordType::QuarterTotals, 0, 3),
+        hours: s.hours as u64,
+        so2: recorded::value_in(file, s, RecordType::QuarterTotals, 0, 0),
+        co2: recorded::value_in(file, s, RecordType::QuarterTotals, 0, 1),
+        heat: recorded::value_in(file, s, RecordType::QuarterTotals, 0, 2),
+        nox: recorded::value_in(file, s, RecordType::QuarterTotals, 0, 3),
     }
 }

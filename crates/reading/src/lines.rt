@@ -1,9 +1,8 @@
 // The first line of what is left of a file: its length, its type and its shape.
-use edr::layout;
-use edr::layout::RecordType;
+use layout::RecordType;
 ghost use mathlib.Core.Path.{_≡_};
 ghost use lib.ListN.{length};
-ghost use Rattle.edr.specs.Layout.{codeOf};
+ghost use Rattle.layout.specs.Layout.{codeOf};
 ghost use Rattle.columns.specs.Written.{digitsOf};
 ghost use Rattle.reading.specs.Lines.{firstLine};
 ghost use Rattle.reading.specs.LineFaults.{typeIs, shapeFault};

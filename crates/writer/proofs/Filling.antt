@@ -12,9 +12,9 @@ use borrow.Rule.Slice.PartMut.{putMid}
 use Rattle.columns.specs.Columns.{put}
 use Rattle.columns.specs.ColumnsLaws.{put-length, put-beside}
 use Rattle.columns.specs.Written.{written}
-use Rattle.edr.specs.Layout.{valueCount, valuesOf, valueAt, rangedValue}
-use Rattle.edr.specs.ValueLaws.{value-count, value-of}
-use Rattle.edr.specs.declared.layout.RecordType.{RecordType}
+use Rattle.layout.specs.Layout.{valueCount, valuesOf, valueAt, rangedValue}
+use Rattle.layout.specs.ValueLaws.{value-count, value-of}
+use Rattle.layout.specs.declared.RecordType.{RecordType}
 use Rattle.writer.specs.Written.{valued, ended}
 use Rattle.writer.specs.LineLaws.{values-few}
 

@@ -10,10 +10,10 @@ use Rattle.columns.specs.Written.{digitsOf, digitOrBlank, leading, wholeWritten
 use Rattle.calendar.specs.Calendar.{leapYear, daysInMonth, daysInQuarter, hoursInQuarter, daysBefore, monthOfDay, dateOfHour}
 use Rattle.exact.specs.Fraction.{over}
 use Rattle.exact.specs.Sums.{totalOf}
-use Rattle.edr.specs.Layout.{values}
-use Rattle.edr.specs.Stamp.{stampNumber, stampOf}
-use Rattle.edr.specs.Formulas.{roundedValue, roundedFigures}
-use Rattle.edr.specs.Totals.{totalsOf, meanOf, quarterOf, quarterTotals}
+use Rattle.layout.specs.Layout.{lengthOf}
+use Rattle.stamp.specs.Stamp.{stampNumber, stampOf}
+use Rattle.formulas.specs.Formulas.{roundedValue, roundedFigures}
+use Rattle.totals.specs.Totals.{totalsOf, meanOf, quarterOf, quarterTotals}
 use Rattle.writer.specs.Sheet.{hourAt, hoursFrom, hoursOf, recordedHours}
 use Rattle.writer.specs.Refusals.{every, headingHolds, kindsRise, kindsHold, hoursRise, sheetHolds, inRange, readingsHold, figuresHold, refusalOf}
 use Rattle.writer.specs.Written.{headed, valued, facilityRecord, hourRecord, totalsRecord, runOf, runsOf, report, answered, buffered}
@@ -60,9 +60,9 @@ empty =
     48 ∷ 32 ∷ 48 ∷ 46 ∷ 48 ∷ 48 ∷ 48 ∷ 10 ∷ []
 
 pub worked-written : (answered 2005 3 stack workedSheet 382 ≡ Length 382) × (buffered 2005 3 stack workedSheet (replicate 382 0) ≡ worked)
-unfolding worked all put digitsOf digitOrBlank leading wholeWritten fixedWritten written leapYear daysInMonth daysInQuarter hoursInQuarter daysBefore monthOfDay dateOfHour over totalOf values stampNumber stampOf roundedValue roundedFigures totalsOf meanOf quarterOf quarterTotals hourAt hoursFrom hoursOf recordedHours every headingHolds kindsRise kindsHold hoursRise sheetHolds inRange readingsHold figuresHold refusalOf headed valued facilityRecord hourRecord totalsRecord runOf runsOf report answered buffered
+unfolding worked all put digitsOf digitOrBlank leading wholeWritten fixedWritten written leapYear daysInMonth daysInQuarter hoursInQuarter daysBefore monthOfDay dateOfHour over totalOf stampNumber stampOf roundedValue roundedFigures totalsOf meanOf quarterOf quarterTotals hourAt hoursFrom hoursOf recordedHours every headingHolds kindsRise kindsHold hoursRise sheetHolds inRange readingsHold figuresHold refusalOf headed valued facilityRecord hourRecord totalsRecord runOf runsOf report answered buffered
 worked-written = (refl, refl)
 
 pub empty-written : (answered 2005 3 stack [] 64 ≡ Length 64) × (buffered 2005 3 stack [] (replicate 64 0) ≡ empty)
-unfolding empty all put digitsOf digitOrBlank leading wholeWritten fixedWritten written leapYear daysInMonth daysInQuarter hoursInQuarter daysBefore monthOfDay dateOfHour over totalOf values stampNumber stampOf roundedValue roundedFigures totalsOf meanOf quarterOf quarterTotals hourAt hoursFrom hoursOf recordedHours every headingHolds kindsRise kindsHold hoursRise sheetHolds inRange readingsHold figuresHold refusalOf headed valued facilityRecord hourRecord totalsRecord runOf runsOf report answered buffered
+unfolding empty all put digitsOf digitOrBlank leading wholeWritten fixedWritten written leapYear daysInMonth daysInQuarter hoursInQuarter daysBefore monthOfDay dateOfHour over totalOf stampNumber stampOf roundedValue roundedFigures totalsOf meanOf quarterOf quarterTotals hourAt hoursFrom hoursOf recordedHours every headingHolds kindsRise kindsHold hoursRise sheetHolds inRange readingsHold figuresHold refusalOf headed valued facilityRecord hourRecord totalsRecord runOf runsOf report answered buffered
 empty-written = (refl, refl)

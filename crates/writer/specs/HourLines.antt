@@ -3,17 +3,16 @@
 use Prim.Native.Nat.{ℕ, _+_}
 use mathlib.Core.List.{List, [], _∷_}
 use Rattle.columns.specs.Columns.{put}
-use Rattle.edr.specs.Layout.{offsetOf}
-use Rattle.edr.specs.declared.hour.Hour.{Hour}
-use Rattle.edr.specs.declared.layout.RecordType.{RecordType}
-use Rattle.edr.specs.declared.layout.RecordType.the-variants.{So2Concentration, NoxConcentration, Co2Concentration, VolumetricFlow, Operation, So2Mass, NoxRate, Co2Mass}
+use Rattle.layout.specs.Layout.{order, hourly, offsetOf, shape}
+use Rattle.formulas.specs.declared.hour.Hour.{Hour}
+use Rattle.layout.specs.declared.RecordType.{RecordType}
 use Rattle.writer.specs.Written.{ended, datedRecord}
 
 -- the types of which every hour has a line, in the order of the report
 abbrev pub hourTypes : List RecordType
-hourTypes = So2Concentration ∷ NoxConcentration ∷ Co2Concentration ∷ VolumetricFlow ∷ Operation ∷ So2Mass ∷ NoxRate ∷ Co2Mass ∷ []
+hourTypes = hourly order
 
 -- the lines of hour k of n, one of each of these types, put at their offsets
 unfoldable pub hourLines : List ℕ → (n k : ℕ) → List ℕ → Hour → List RecordType → List ℕ → List ℕ
 hourLines name n k date h [] buffer = buffer
-hourLines name n k date h (t ∷ ts) buffer = hourLines name n k date h ts (put (offsetOf n t k + 1) (ended (datedRecord name t date h)) buffer)
+hourLines name n k date h (t ∷ ts) buffer = hourLines name n k date h ts (put (offsetOf (shape n) t k + 1) (ended (datedRecord name t date h)) buffer)

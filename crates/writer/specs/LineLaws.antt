@@ -12,15 +12,15 @@ use Rattle.columns.specs.Columns.{put}
 use Rattle.columns.specs.ColumnsLaws.{put-length, put-all}
 use Rattle.columns.specs.Written.{digitsOf, written}
 use Rattle.columns.specs.WrittenLaws.{digits-length, digits-printable, written-length, written-printable}
-use Rattle.edr.specs.Layout.{codeOf, lengthOf, dateColumn, valueCount, valuesOf, rangedValue}
-use Rattle.edr.specs.ValueLaws.{ValueInside, value-count, value-of, value-inside}
-use Rattle.edr.specs.Stamp.{stampNumber, stampOf}
-use Rattle.edr.specs.StampLaws.{stamp-length}
-use Rattle.edr.specs.declared.totals.Quarter.{Quarter}
-use Rattle.edr.specs.declared.layout.Value.{Value}
-use Rattle.edr.specs.declared.hour.Hour.{Hour}
-use Rattle.edr.specs.declared.layout.RecordType.{RecordType}
-use Rattle.edr.specs.declared.layout.RecordType.the-variants.{Facility, So2Concentration, NoxConcentration, Co2Concentration, VolumetricFlow, Operation, QuarterTotals, So2Mass, NoxRate, Co2Mass}
+use Rattle.layout.specs.Layout.{codeOf, lengthOf, dateColumn, valueCount, valuesOf, rangedValue}
+use Rattle.layout.specs.ValueLaws.{ValueInside, value-count, value-of, value-inside}
+use Rattle.stamp.specs.Stamp.{stampNumber, stampOf}
+use Rattle.stamp.specs.StampLaws.{stamp-length}
+use Rattle.totals.specs.declared.Quarter.{Quarter}
+use Rattle.layout.specs.declared.Value.{Value}
+use Rattle.formulas.specs.declared.hour.Hour.{Hour}
+use Rattle.layout.specs.declared.RecordType.{RecordType}
+use Rattle.layout.specs.declared.RecordType.the-variants.{Facility, So2Concentration, NoxConcentration, Co2Concentration, VolumetricFlow, Operation, QuarterTotals, So2Mass, NoxRate, Co2Mass}
 use Rattle.writer.specs.Sheet.{recordedHour}
 use Rattle.writer.specs.Written.{headed, valued, facilityRecord, hourValues, datedRecord, hourRecord, totalValues, totalsRecord}
 use Rattle.writer.specs.declared.sheet.SheetHour.{SheetHour}

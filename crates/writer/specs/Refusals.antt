@@ -7,10 +7,10 @@ use lib.ListN.{length}
 use lib.Dec.{eqb, leb, ltb}
 use Rattle.columns.specs.Bytes.{all, isBlank, isPrintable}
 use Rattle.calendar.specs.Calendar.{hoursInQuarter}
-use Rattle.edr.specs.Layout.{yearDigits, quarterDigit, so2Ppm, noxPpm, co2Percent, flowScfh, timeHours, fFactor, heatRate, so2Rate, noxRate, co2Rate}
-use Rattle.edr.specs.Formulas.{roundedFigures}
-use Rattle.edr.specs.declared.layout.Value.{Value}
-use Rattle.edr.specs.declared.hour.Figures.{Figures}
+use Rattle.layout.specs.Layout.{yearDigits, quarterDigit, so2Ppm, noxPpm, co2Percent, flowScfh, timeHours, fFactor, heatRate, so2Rate, noxRate, co2Rate}
+use Rattle.formulas.specs.Formulas.{roundedFigures}
+use Rattle.layout.specs.declared.Value.{Value}
+use Rattle.formulas.specs.declared.hour.Figures.{Figures}
 use Rattle.writer.specs.Sheet.{sheetKind, hourCount, hoursOf}
 use Rattle.writer.specs.declared.sheet.SheetHour.{SheetHour}
 

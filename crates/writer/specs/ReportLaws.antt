@@ -5,11 +5,11 @@ use mathlib.Core.List.{List, [], _∷_}
 use native.Mathlib.Omega.{arith}
 use lib.ListN.{length, length-append}
 use Rattle.exact.specs.Sums.{totalOf}
-use Rattle.edr.specs.Layout.{lengthOf}
-use Rattle.edr.specs.Totals.{quarterTotals}
-use Rattle.edr.specs.declared.totals.Quarter.{Quarter}
-use Rattle.edr.specs.declared.layout.RecordType.{RecordType}
-use Rattle.edr.specs.declared.layout.RecordType.the-variants.{Facility, QuarterTotals}
+use Rattle.layout.specs.Layout.{lengthOf}
+use Rattle.totals.specs.Totals.{quarterTotals}
+use Rattle.totals.specs.declared.Quarter.{Quarter}
+use Rattle.layout.specs.declared.RecordType.{RecordType}
+use Rattle.layout.specs.declared.RecordType.the-variants.{Facility, QuarterTotals}
 use Rattle.writer.specs.Sheet.{recordedHours}
 use Rattle.writer.specs.Refusals.{reportBytes}
 use Rattle.writer.specs.Written.{ended, facilityRecord, hourRecord, totalsRecord, runOf, runsOf, firstTypes, lastTypes, report}

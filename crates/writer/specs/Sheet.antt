@@ -3,8 +3,8 @@
 use Prim.Native.Nat.{ℕ, zero, suc, _+_, _*_, _/_, _%_, _^_}
 use mathlib.Core.List.{List, [], _∷_}
 use lib.ListN.{length, getD}
-use Rattle.edr.specs.Formulas.{roundedFigures}
-use Rattle.edr.specs.declared.hour.Hour.{Hour}
+use Rattle.formulas.specs.Formulas.{roundedFigures}
+use Rattle.formulas.specs.declared.hour.Hour.{Hour}
 use Rattle.writer.specs.declared.sheet.Word.{Word}
 use Rattle.writer.specs.declared.sheet.SheetHour.{SheetHour}
 

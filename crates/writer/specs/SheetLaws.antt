@@ -9,10 +9,10 @@ use native.Mathlib.Numerals.{add-one}
 use lib.Dec.{leb, ltb}
 use lib.ListN.{length}
 use borrow.Author.Tests.{leb-true, ltb-true}
-use Rattle.edr.specs.Layout.{Within, timeHours}
-use Rattle.edr.specs.Hour.{ReadingsWithin, FiguresWithin}
-use Rattle.edr.specs.declared.layout.Value.{Value}
-use Rattle.edr.specs.declared.hour.Figures.{Figures}
+use Rattle.layout.specs.Layout.{Within, timeHours}
+use Rattle.formulas.specs.Hour.{ReadingsWithin, FiguresWithin}
+use Rattle.layout.specs.declared.Value.{Value}
+use Rattle.formulas.specs.declared.hour.Figures.{Figures}
 use Rattle.writer.specs.Sheet.{hourAt, hourCount, hoursFrom, hoursOf}
 use Rattle.writer.specs.Refusals.{every, hoursRise, inRange, readingsHold, figuresHold}
 use Rattle.writer.specs.declared.sheet.SheetHour.{SheetHour}

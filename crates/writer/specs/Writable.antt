@@ -7,7 +7,7 @@ use mathlib.Core.Bool.{true, not}
 use lib.ListN.{length}
 use Rattle.columns.specs.Bytes.{all, isBlank, isPrintable}
 use Rattle.calendar.specs.Calendar.{IsQuarter, hoursInQuarter}
-use Rattle.edr.specs.Hour.{HourWithin}
+use Rattle.formulas.specs.Hour.{HourWithin}
 use Rattle.writer.specs.Sheet.{hourAt, hourCount, hoursOf, recordedHour}
 use Rattle.writer.specs.Refusals.{kindsHold, hoursRise, reportBytes}
 use Rattle.writer.specs.declared.sheet.SheetHour.{SheetHour}

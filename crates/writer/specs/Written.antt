@@ -5,14 +5,14 @@ use mathlib.Core.List.{List, [], _∷_, _++_}
 use lib.ListN.{length, drop, replicate}
 use Rattle.columns.specs.Columns.{put}
 use Rattle.columns.specs.Written.{digitsOf, written}
-use Rattle.edr.specs.Layout.{codeOf, lengthOf, dateColumn, typeStart, typeWidth, stackStart, yearDigits, quarterDigit, valuesOf}
-use Rattle.edr.specs.Stamp.{stampOf}
-use Rattle.edr.specs.Totals.{quarterTotals}
-use Rattle.edr.specs.declared.hour.Hour.{Hour}
-use Rattle.edr.specs.declared.totals.Quarter.{Quarter}
-use Rattle.edr.specs.declared.layout.Value.{Value}
-use Rattle.edr.specs.declared.layout.RecordType.{RecordType}
-use Rattle.edr.specs.declared.layout.RecordType.the-variants.{Facility, So2Concentration, NoxConcentration, Co2Concentration, VolumetricFlow, Operation, QuarterTotals, So2Mass, NoxRate, Co2Mass}
+use Rattle.layout.specs.Layout.{codeOf, earlier, later, hourly, lengthOf, dateColumn, typeStart, typeWidth, stackStart, yearDigits, quarterDigit, valuesOf}
+use Rattle.stamp.specs.Stamp.{stampOf}
+use Rattle.totals.specs.Totals.{quarterTotals}
+use Rattle.formulas.specs.declared.hour.Hour.{Hour}
+use Rattle.totals.specs.declared.Quarter.{Quarter}
+use Rattle.layout.specs.declared.Value.{Value}
+use Rattle.layout.specs.declared.RecordType.{RecordType}
+use Rattle.layout.specs.declared.RecordType.the-variants.{Facility, So2Concentration, NoxConcentration, Co2Concentration, VolumetricFlow, Operation, QuarterTotals, So2Mass, NoxRate, Co2Mass}
 use Rattle.writer.specs.Sheet.{hourCount, hoursOf, recordedHour, recordedHours}
 use Rattle.writer.specs.Refusals.{reportBytes, refusalOf}
 use Rattle.writer.specs.declared.sheet.SheetHour.{SheetHour}
@@ -76,10 +76,10 @@ runsOf year quarter name (t ∷ ts) hours = runOf year quarter name t hours ++ r
 
 -- the types of the runs in front of record 301, and of those behind it
 abbrev pub firstTypes : List RecordType
-firstTypes = So2Concentration ∷ NoxConcentration ∷ Co2Concentration ∷ VolumetricFlow ∷ Operation ∷ []
+firstTypes = hourly (earlier QuarterTotals)
 
 abbrev pub lastTypes : List RecordType
-lastTypes = So2Mass ∷ NoxRate ∷ Co2Mass ∷ []
+lastTypes = hourly (later QuarterTotals)
 
 unfoldable pub report : ℕ → ℕ → List ℕ → List SheetHour → List ℕ
 report year quarter name hours =

@@ -1,16 +1,16 @@
 // The records of a report, each written into its own part of the lent buffer.
 use crate::sheet::SheetHour;
-use edr::hour::Hour;
-use edr::layout;
-use edr::layout::RecordType;
-use edr::totals::Quarter;
+use formulas::hour::Hour;
+use layout::RecordType;
+use layout::Shape;
+use totals::Quarter;
 ghost use mathlib.Core.Path.{_≡_};
 ghost use Prim.Native.Nat.{_+_, _≤_, _<_};
 ghost use lib.ListN.{length, take, replicate};
 ghost use Rattle.columns.specs.Columns.{put};
 ghost use Rattle.columns.specs.Written.{digitsOf};
-ghost use Rattle.edr.specs.Layout.{lengthOf, dateColumn, valueCount, valuesOf, offsetOf};
-ghost use Rattle.edr.specs.Hour.{ReadingsWithin};
+ghost use Rattle.layout.specs.Layout.{lengthOf, dateColumn, valueCount, valuesOf, offsetOf, shape};
+ghost use Rattle.formulas.specs.Hour.{ReadingsWithin};
 ghost use Rattle.writer.specs.Sheet.{recordedHour};
 ghost use Rattle.writer.specs.Refusals.{reportBytes};
 ghost use Rattle.writer.specs.Written.{headed, valued, ended, facilityRecord, hourValues, datedRecord, totalsRecord};
@@ -71,7 +71,7 @@ pub fn recorded_hour(h: SheetHour) -> Hour
     Hour {
         time: h.time,
         readings,
-        figures: edr::formulas::rounded_figures(readings),
+        figures: formulas::rounded_figures(readings),
     }
 }
 
@@ -136,9 +136,9 @@ pub fn write_hour(
     h: Hour,
 )
     requires { ⌜ (k < n) × (n ≤ 2208) × (reportBytes n ≤ length (now buffer)) × (length (now name) ≡ 6) × (1 ≤ dateColumn t) ⌝ }
-    ensures { λ _. ⌜ now (buffer .exit) ≡ put (offsetOf n t k + 1) (ended (datedRecord (now (name .entry)) t (digitsOf 8 date) h)) (now (buffer .entry)) ⌝ }
+    ensures { λ _. ⌜ now (buffer .exit) ≡ put (offsetOf (shape n) t k + 1) (ended (datedRecord (now (name .entry)) t (digitsOf 8 date) h)) (now (buffer .entry)) ⌝ }
 {
-    let at = layout::offset_of(n, t, k);
+    let at = layout::offset_of(Shape { hours: n }, t, k);
     let end = at + layout::line_length(t);
     hour_record(&mut buffer[at..end], t, name, date, h);
     buffer[end] = 10;

@@ -1,12 +1,11 @@
 // The refusals of the writer, 31 to 34, decided before the first byte is written.
 use crate::sheet::SheetHour;
-use edr::hour::Figures;
-use edr::layout;
-use edr::layout::RecordType;
+use formulas::hour::Figures;
+use layout::RecordType;
 ghost use mathlib.Core.Path.{_≡_};
 ghost use Prim.Native.Nat.{_+_, _*_, _≤_, _<_};
 ghost use lib.ListN.{length};
-ghost use Rattle.edr.specs.Layout.{valueCount, valueAt};
+ghost use Rattle.layout.specs.Layout.{valueCount, valueAt};
 ghost use Rattle.writer.specs.Sheet.{hourCount};
 ghost use Rattle.writer.specs.Refusals.{
   headingHolds,
@@ -112,7 +111,7 @@ fn hour_refusal(h: SheetHour) -> u64
     if !readings_hold(h) {
         return 32;
     }
-    if !figures_hold(edr::formulas::rounded_figures(h.readings)) {
+    if !figures_hold(formulas::rounded_figures(h.readings)) {
         return 33;
     }
     0

@@ -1,15 +1,16 @@
 // The report, in one pass over the sheet: each hour's lines at their offsets, and its figures into the totals.
-use edr::hour::Hour;
-use edr::layout::RecordType;
-use edr::totals::Quarter;
-use edr::totals::Totals;
+use formulas::hour::Hour;
+use layout::RecordType;
+use layout::Shape;
+use totals::Quarter;
+use totals::Totals;
 ghost use mathlib.Core.Path.{_≡_};
 ghost use Prim.Native.Nat.{_+_, _≤_, _<_};
 ghost use lib.ListN.{length};
 ghost use Rattle.columns.specs.Columns.{put};
 ghost use Rattle.columns.specs.Written.{digitsOf};
-ghost use Rattle.edr.specs.Layout.{offsetOf};
-ghost use Rattle.edr.specs.Totals.{quarterTotals};
+ghost use Rattle.layout.specs.Layout.{offsetOf, shape};
+ghost use Rattle.totals.specs.Totals.{quarterTotals};
 ghost use Rattle.writer.specs.Sheet.{hourCount, hoursOf, recordedHours};
 ghost use Rattle.writer.specs.Refusals.{reportBytes};
 ghost use Rattle.writer.specs.Writable.{Fits};
@@ -35,15 +36,15 @@ fn write_hour_lines(buffer: &mut [u8], n: usize, k: usize, name: &[u8], date: u6
 fn write_hours(buffer: &mut [u8], year: u64, quarter: u64, name: &[u8], sheet: &[u32]) -> Quarter
     requires { ⌜ Fits year quarter (now name) (now sheet) (now buffer) ⌝ }
     ensures { λ r. ⌜ (r ≡ quarterTotals (recordedHours (hoursOf (now (sheet .entry)))))
-        × (now (buffer .exit) ≡ put (offsetOf (hourCount (now (sheet .entry))) RecordType.So2Mass 0 + 1) (runsOf year quarter (now (name .entry)) lastTypes (hoursOf (now (sheet .entry))))
-        (put (offsetOf (hourCount (now (sheet .entry))) RecordType.So2Concentration 0 + 1) (runsOf year quarter (now (name .entry)) firstTypes (hoursOf (now (sheet .entry)))) (now (buffer .entry)))) ⌝ }
+        × (now (buffer .exit) ≡ put (offsetOf (shape (hourCount (now (sheet .entry)))) RecordType.So2Mass 0 + 1) (runsOf year quarter (now (name .entry)) lastTypes (hoursOf (now (sheet .entry))))
+        (put (offsetOf (shape (hourCount (now (sheet .entry)))) RecordType.So2Concentration 0 + 1) (runsOf year quarter (now (name .entry)) firstTypes (hoursOf (now (sheet .entry)))) (now (buffer .entry)))) ⌝ }
 {
     let n = sheet.len() / 6;
     let mut totals = Totals::none();
     let mut k = 0;
     while k < n {
         let h = crate::sheet::hour_at(sheet, k);
-        let date = edr::stamp::stamp_number(year, quarter, h.hour);
+        let date = stamp::stamp_number(year, quarter, h.hour);
         let recorded = crate::lines::recorded_hour(h);
         totals = totals.with_hour(recorded.figures, recorded.time);
         write_hour_lines(buffer, n, k, name, date, recorded);
@@ -58,6 +59,7 @@ pub fn write_report(buffer: &mut [u8], year: u64, quarter: u64, name: &[u8], she
 {
     crate::lines::write_facility(buffer, year, quarter, name);
     let totals = write_hours(buffer, year, quarter, name, sheet);
-    let at = edr::layout::offset_of(sheet.len() / 6, RecordType::QuarterTotals, 0);
+    let n = sheet.len() / 6;
+    let at = layout::offset_of(Shape { hours: n }, RecordType::QuarterTotals, 0);
     crate::lines::write_totals(buffer, at, name, totals);
 }

@@ -1,5 +1,5 @@
 // The sheet: six words to an operating hour, each with its kind in the top three of 32 bits and its value in the others.
-use edr::hour::Readings;
+use formulas::hour::Readings;
 ghost use mathlib.Core.Path.{_≡_};
 ghost use Prim.Native.Nat.{_+_, _*_, _≤_, _<_};
 ghost use lib.ListN.{length, getD};

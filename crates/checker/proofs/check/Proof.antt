@@ -3,7 +3,6 @@
 use mathlib.Core.Path.{_≡_, sym, ap, _∙_}
 use mathlib.Core.List.{List}
 use Prim.Native.Nat.{ℕ}
-use native.Mathlib.Omega.{arith}
 use Rattle.reading.specs.Reading.{readOf}
 use Rattle.reading.specs.CleanFile.{clean-file}
 use Rattle.reading.specs.declared.Reading.{Reading}
@@ -32,7 +31,7 @@ judge-requires c κs =
     let file = c .before .before .before .before .before .args .file .now in
     let e = sym (c .before .before .before .read .ensures) ∙ c .before .reading2 .given .1 in
     let f = clean-file file _ e in
-    record { size = omega (arith, f .size); most = f .most; within = f .within }
+    record { standing = f .standing; within = f .within }
 
 returns : tie.Need-returns
 unfolding afterReading checked

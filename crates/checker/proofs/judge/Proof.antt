@@ -2,31 +2,31 @@
 -- Assumes nothing.
 use mathlib.Core.Bool.{true, false}
 use mathlib.Core.Logic.{⊎-elim}
-use Rattle.edr.specs.Hour.{HourWithin}
-use Rattle.edr.specs.Formulas.{passesTest}
-use Rattle.edr.specs.declared.totals.Totals.{Totals}
+use Rattle.formulas.specs.Hour.{HourWithin}
+use Rattle.formulas.specs.Formulas.{passesTest}
+use Rattle.totals.specs.declared.Totals.{Totals}
 use Rattle.reading.specs.declared.Refusal.{Refusal}
 use Rattle.checker.specs.declared.Answer.the-variants.{Refused}
 use Prim.Native.Nat.{ℕ, suc, _+_, _-_, _*_, _≤_, _<_}
 use mathlib.Core.Path.{_≡_, refl, sym, ap, _∙_}
 use native.Mathlib.Omega.{arith}
 use borrow.Author.Needs.{needs}
-use Rattle.edr.specs.Totals.{Room, runningTotals, totalsOf}
+use Rattle.totals.specs.Totals.{Room, runningTotals, totalsOf}
 use Rattle.reading.specs.Recorded.{hoursOf}
 use Rattle.checker.specs.Checked.{quantityAt, judged}
-use Rattle.checker.proofs.Pass.{hoursLeft, left, figuresLeft, left-first, left-hour, left-end, figure-passed, figure-failed, figures-done, totals-first, totals-next, totals-end, grown-hours, not-true, not-false, ending-is}
+use Rattle.checker.proofs.Pass.{figure-line, hoursLeft, left, figuresLeft, left-first, left-hour, left-end, figure-passed, figure-failed, figures-done, totals-first, totals-next, totals-end, grown-hours, not-true, not-false, ending-is}
 use Rattle.checker.proofs.judge.Statement.{statement}
 use Rattle.checker.proofs.judge.Tie as tie
 
 abbrev Inv-loop : tie.InvT-loop
-Inv-loop file n totals k hour j₀ j = (j ≤ 4) × (figuresLeft file n k hour j ≡ judged file n)
+Inv-loop file n totals k hour j₀ j = (j ≤ 4) × (figuresLeft file n k hour j ≡ judged file)
 
 abbrev μ-loop : tie.MeasureT-loop
 μ-loop file n totals k hour j₀ j = 4 - j
 
 abbrev Inv-hours : tie.InvT-hours
 Inv-hours file n totals₀ k₀ totals k =
-    (k ≤ n) × (Room totals × ((totals .hours ≡ k) × ((runningTotals totals (hoursLeft file n k) ≡ totalsOf (hoursOf file n)) × (left file n k ≡ judged file n))))
+    (k ≤ n) × (Room totals × ((totals .hours ≡ k) × ((runningTotals totals (hoursLeft file n k) ≡ totalsOf (hoursOf file)) × (left file n k ≡ judged file))))
 
 abbrev μ-hours : tie.MeasureT-hours
 μ-hours file n totals₀ k₀ totals k = n - k
@@ -39,11 +39,11 @@ hours-holds c =
     let s = c .before .before in
     let e = c .none .ensures .0 in (
       omega arith,
-      (c .none .ensures .1, (ap (λ (t : Totals). t .hours) e, (rw e (totals-first (s .args .file .now) (s .args .n)), left-first (s .args .file .now) (s .args .n)))),
+      (c .none .ensures .1, (ap (λ (t : Totals). t .hours) e, (rw e (totals-first (s .args .file .now) (s .args .n) (s .pre .standing)), left-first (s .args .file .now) (s .args .n) (s .pre .standing)))),
     )
 
 hour-requires : tie.Need-hour-requires Inv-loop μ-loop Inv-hours μ-hours
-hour-requires c κs = let s = c .before .before .before .before in (s .pre .size, s .pre .most, omega (arith, c .before .hours .inv .0))
+hour-requires c κs = let s = c .before .before .before .before in (s .pre .standing, omega (arith, c .before .hours .inv .0))
 
 loop-holds : tie.Need-loop-holds Inv-loop μ-loop Inv-hours μ-hours
 loop-holds c =
@@ -60,14 +60,14 @@ figure-passes-requires c κs =
     let h = c .before .before .before .before .before .hours in
     rw (c .before .before .before .hour .ensures) (s .pre .within (h .k) (omega (arith, h .inv .0)))
 
-add-t14 : tie.Need-add-t14 Inv-loop μ-loop Inv-hours μ-hours
-add-t14 c = omega arith
+add-t15 : tie.Need-add-t15 Inv-loop μ-loop Inv-hours μ-hours
+add-t15 c = omega arith
 
 type-for-requires : tie.Need-type-for-requires Inv-loop μ-loop Inv-hours μ-hours
 type-for-requires c κs = tt
 
 line-of-requires : tie.Need-line-of-requires Inv-loop μ-loop Inv-hours μ-hours
-line-of-requires c κs = let s = c .before .before .before .before .before .before .before .before .before .before .before in let h = c .before .before .before .before .before .before .before .before .hours in (s .pre .most, omega (arith, h .inv .0))
+line-of-requires c κs = let s = c .before .before .before .before .before .before .before .before .before .before .before in let h = c .before .before .before .before .before .before .before .before .hours in (s .pre .standing .held, omega (arith, h .inv .0))
 
 add-j : tie.Need-add-j Inv-loop μ-loop Inv-hours μ-hours
 add-j c = omega arith
@@ -130,19 +130,20 @@ returns c =
     let r = x .1 .result in
     let l = x .2 in
     let p : passesTest (quantityAt (l .j)) r ≡ false = rw (x .4 .ensures) at (sym (x .5 .ensures .test) ∙ not-true (x .5 .result) (x .6 .taken)) in
-    ap Refused (x .9 ∙ rw (x .8 .ensures, x .7 .ensures, x .4 .ensures) refl)
+    let at : ℕ → Refusal = λ line. record { number = 11 + l .j; line = line } in
+    ap Refused (x .9 ∙ rw (x .8 .ensures, x .7 .ensures, x .4 .ensures) (ap at (figure-line (s .args .file .now) (s .args .n) (s .pre .standing) (quantityAt (l .j)) (h .k) (omega (arith, h .inv .0)))))
     ∙ sym (figure-failed (s .args .file .now) (s .args .n) (h .k) r (l .j) (x .3 .taken) p)
     ∙ l .inv .1)
     (f .came)
 
 line-of-requires-2 : tie.Need-line-of-requires-2 Inv-loop μ-loop Inv-hours μ-hours
-line-of-requires-2 c κs = let s = c .before .before .before .before .before .before in (s .pre .most, omega arith)
+line-of-requires-2 c κs = let s = c .before .before .before .before .before .before in (s .pre .standing .held, omega arith)
 
 quarter-requires : tie.Need-quarter-requires Inv-loop μ-loop Inv-hours μ-hours
 quarter-requires c κs = c .before .before .before .before .hours .inv .1 .0
 
 totals-requires : tie.Need-totals-requires Inv-loop μ-loop Inv-hours μ-hours
-totals-requires c κs = let s = c .before .before .before .before .before .before .before .before in (s .pre .size, s .pre .most)
+totals-requires c κs = let s = c .before .before .before .before .before .before .before .before in s .pre .standing
 
 compare-requires : tie.Need-compare-requires Inv-loop μ-loop Inv-hours μ-hours
 compare-requires c κs = tt
@@ -158,7 +159,7 @@ returns-2 c =
     let t = rw k at (h .inv .1 .1 .1 .0) in
     c .compare .ensures
     ∙ rw (c .before .before .before .line-of2 .ensures, c .before .before .quarter .ensures, c .before .totals .ensures)
-    (ending-is (s .args .file .now) (s .args .n) (h .totals) (sym (totals-end (s .args .file .now) (s .args .n) (h .totals)) ∙ t))
+    (ending-is (s .args .file .now) (s .args .n) (s .pre .standing) (h .totals) (sym (totals-end (s .args .file .now) (s .args .n) (h .totals)) ∙ t))
     ∙ sym (left-end (s .args .file .now) (s .args .n))
     ∙ rw k at (h .inv .1 .1 .1 .1))
     (λ x. absurd (let z = c .before .before .before .before .if3 .left in let y = ap (λ (y : Refusal). y .number) (x .9) in omega arith))
@@ -178,7 +179,7 @@ judge-spec =
     loop-holds
     quantity-at-requires
     figure-passes-requires
-    add-t14
+    add-t15
     type-for-requires
     line-of-requires
     add-j

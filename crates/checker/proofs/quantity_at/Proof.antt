@@ -2,7 +2,7 @@
 -- Assumes nothing.
 use Prim.Native.Nat.{ℕ, zero, suc}
 use mathlib.Core.Path.{_≡_, refl}
-use Rattle.edr.specs.declared.hour.Quantity.the-variants.{Co2}
+use Rattle.formulas.specs.declared.hour.Quantity.the-variants.{Co2}
 use Rattle.checker.specs.Checked.{quantityAt}
 use borrow.Author.Needs.{needs}
 use Rattle.checker.proofs.quantity_at.Statement.{statement}

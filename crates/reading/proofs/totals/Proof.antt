@@ -1,6 +1,7 @@
 -- The totals on line 301, each where the layout has it.
 -- Assumes nothing.
 use Rattle.reading.specs.Recorded.{totalsIn}
+use Rattle.reading.specs.RecordLaws.{hours-standing}
 use borrow.Author.Needs.{needs}
 use Rattle.reading.proofs.totals.Statement.{statement}
 use Rattle.reading.proofs.totals.Tie as tie
@@ -19,7 +20,7 @@ value-in-requires-4 c κs = search needs
 
 returns : tie.Need-returns
 unfolding totalsIn
-returns c = cc
+returns c = let s = c .before .before .before .before .before in cc (hours-standing (s .args .file .now) (s .args .s) (s .pre))
 
 pub totals-spec : {M : Type 1} → statement M
 totals-spec =

@@ -6,7 +6,7 @@ use lib.ListN.{length, take}
 use lib.Seq.{length-take-le}
 use borrow.Author.Tests.{not-true, not-false}
 use Rattle.columns.specs.Columns.{columns}
-use Rattle.edr.specs.declared.layout.RecordType.the-variants.{Facility}
+use Rattle.layout.specs.declared.RecordType.the-variants.{Facility}
 use Rattle.reading.specs.Lines.{firstLine}
 use Rattle.reading.specs.LineFaults.{shapeFault, facilityFault}
 use Rattle.reading.proofs.Chains.{first-of}

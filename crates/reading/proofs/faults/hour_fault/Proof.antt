@@ -4,7 +4,7 @@ use mathlib.Core.Path.{_≡_, refl, sym, ap, _∙_}
 use native.Mathlib.Omega.{arith}
 use lib.ListN.{length, take}
 use lib.Seq.{length-take-le}
-use Rattle.edr.specs.declared.layout.RecordType.the-variants.{So2Concentration}
+use Rattle.layout.specs.declared.RecordType.the-variants.{So2Concentration}
 use Rattle.reading.specs.Lines.{firstLine}
 use Rattle.reading.specs.LineFaults.{shapeFault, risingFault, hourOn, hourFault}
 use Rattle.reading.proofs.Chains.{first-of, second-of, third-of, last-of}

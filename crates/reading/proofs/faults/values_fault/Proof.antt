@@ -5,7 +5,7 @@ use Prim.Native.Nat.{_-_, _≤_}
 use mathlib.Core.Path.{_≡_, refl, sym, _∙_}
 use native.Mathlib.Omega.{arith}
 use lib.ListN.{drop}
-use Rattle.edr.specs.Layout.{valuesOf}
+use Rattle.layout.specs.Layout.{valuesOf}
 use Rattle.reading.specs.LineFaults.{valuesFault}
 use Rattle.reading.proofs.Values.{placed, first-fault, next-fault, values-end}
 use Rattle.reading.proofs.faults.values_fault.Statement.{statement}

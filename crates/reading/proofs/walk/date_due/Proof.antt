@@ -1,28 +1,29 @@
--- The date of the 200 line of a rank, for a type with dates.
+-- The date of the 200 line of a rank, for a type that has a line for every operating hour.
 -- Assumes nothing.
 use Prim.Native.Nat.{_<_}
 use mathlib.Core.Path.{sym, _∙_}
 use native.Mathlib.Omega.{arith}
-use Rattle.reading.proofs.Runs.{run-dated, due-undated, due-dated}
+use Rattle.reading.proofs.Runs.{run-lines, run-date, date-part}
 use borrow.Author.Needs.{needs}
 use Rattle.reading.proofs.walk.date_due.Statement.{statement}
 use Rattle.reading.proofs.walk.date_due.Tie as tie
 
-below : (c : tie.Else1) → c .before .before .before .args .k < c .before .before .before .args .n
+below : (c : tie.After-enum-told2) → c .before .before .before .before .args .k < c .before .before .before .before .args .n
 below c =
-    let x = c .before .before .before in
-    rw (run-dated (x .args .t) (x .args .n) (λ e. c .if1 .left (c .before .date-column .ensures ∙ e))) at (x .pre .1)
+    let x = c .before .before .before .before in
+    rw (run-lines (x .args .t) (c .before .before .row-of .ensures) (c .enum-told2 .given .1) (x .args .n)) at (x .pre .1)
 
-date-column-requires : tie.Need-date-column-requires
-date-column-requires c κs = search needs
+row-of-requires : tie.Need-row-of-requires
+row-of-requires c κs = search needs
+
+enum-told : tie.Need-enum-told
+enum-told c = search needs
 
 slice-aggregate-result : tie.Need-slice-aggregate-result
 slice-aggregate-result c = search needs
 
-returns : tie.Need-returns
-returns c =
-    let x = c .before .before .before .before .args in
-    sym (due-undated (x .file .now) (x .t) (x .k) (sym (c .before .before .date-column .ensures) ∙ c .before .if1 .taken))
+enum-told-2 : tie.Need-enum-told-2
+enum-told-2 c = search needs
 
 mul-from : tie.Need-mul-from
 mul-from c = omega (arith, below c)
@@ -42,22 +43,29 @@ part-result-start c = search needs
 part-result-end : tie.Need-part-result-end
 part-result-end c = omega (arith, below c)
 
+returns : tie.Need-returns
+returns c =
+    let x = c .before .before .before .before .before .args in
+    run-date (x .t) (c .before .before .before .row-of .ensures) (c .before .enum-told .given .1) (x .file .now) (x .k)
+
 returns-2 : tie.Need-returns-2
 returns-2 c =
-    let x = c .before .before .before .before .args in
-    sym (due-dated (x .file .now) (x .t) (x .k) (λ e. c .before .if1 .left (c .before .before .date-column .ensures ∙ e)))
+    let x = c .before .before .before .before .before .args in
+    sym (date-part (x .file .now) (x .k)) ∙ run-date (x .t) (c .before .before .before .row-of .ensures) (c .before .enum-told2 .given .1) (x .file .now) (x .k)
 
 pub date-due-spec : {M : Type 1} → statement M
 date-due-spec =
     tie.close
     (tie.spec
-    date-column-requires
+    row-of-requires
+    enum-told
     slice-aggregate-result
-    returns
+    enum-told-2
     mul-from
     add-from
     add-result
     sub-result
     part-result-start
     part-result-end
+    returns
     returns-2)

@@ -8,8 +8,8 @@ use borrow.Author.Needs.{needs}
 use borrow.Author.Tests.{not-true, not-false}
 use lib.ListN.{length, take, drop, length-drop}
 use lib.Seq.{length-take-le}
-use Rattle.edr.specs.Stamp.{stampHour}
-use Rattle.edr.specs.declared.layout.RecordType.the-variants.{So2Concentration}
+use Rattle.stamp.specs.Stamp.{stampHour}
+use Rattle.layout.specs.declared.RecordType.the-variants.{So2Concentration}
 use Rattle.reading.specs.Lines.{firstLine}
 use Rattle.reading.specs.LineFaults.{typeIs, hourFault, dateOn}
 use Rattle.reading.specs.Reading.{hourAfter}

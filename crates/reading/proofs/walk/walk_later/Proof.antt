@@ -7,10 +7,11 @@ use native.Mathlib.Omega.{arith}
 use borrow.Author.Needs.{needs}
 use lib.ListN.{length, take, drop}
 use lib.Seq.{length-take-le}
+use Rattle.layout.specs.Layout.{countOf, shape}
 use Rattle.reading.specs.Lines.{firstLine}
 use Rattle.reading.specs.LineFaults.{dueFault}
 use Rattle.reading.specs.Reading.{laterTypes, dueOf, runOf, runsOf, reportOf}
-use Rattle.reading.specs.Places.{facilityOf, datesIn, dateDue, runLength}
+use Rattle.reading.specs.Places.{facilityOf, datesIn, dateDue}
 use Rattle.reading.specs.declared.Reading.the-variants.{Clean}
 use Rattle.reading.proofs.Runs.{dates-length}
 use Rattle.reading.proofs.Walking.{rest-part, Walked, walked-start, walked-type, walked-over, walked-clean, walked-run, walked-missing, walked-found, walked-room, walked-next}
@@ -34,8 +35,8 @@ abbrev μ-loop : tie.MeasureT-loop
 long : (c : tie.Start Inv-loop2 μ-loop2 Inv-loop μ-loop) → length (take 14 (c .args .file .now)) ≡ 14
 long c = length-take-le 14 (c .args .file .now) (omega arith)
 
-inside : (c : tie.In-loop2 Inv-loop2 μ-loop2 Inv-loop μ-loop) → c .before .loop2 .k < runLength (c .before .before .before .later-type .result) (c .before .before .before .before .before .before .before .before .args .n)
-inside c = omega (arith, c .before .before .run-length .ensures)
+inside : (c : tie.In-loop2 Inv-loop2 μ-loop2 Inv-loop μ-loop) → c .before .loop2 .k < countOf (shape (c .before .before .before .before .before .before .before .before .args .n)) (c .before .before .before .later-type .result)
+inside c = omega (arith, c .before .before .count-of .ensures)
 
 told : (c : tie.After-due-fault Inv-loop2 μ-loop2 Inv-loop μ-loop) →
     c .due-fault .result ≡ dueFault (facilityOf (c .before .before .before .before .before .before .before .before .before .before .before .before .args .file .now)) (dueOf (c .before .before .before .before .before .before .before .later-type .result) (dateDue (c .before .before .before .before .before .before .before .before .before .before .before .before .args .file .now) (c .before .before .before .before .before .before .before .later-type .result) (c .before .before .before .before .before .loop2 .k))) (firstLine (drop (c .before .before .before .before .before .loop2 .at) (c .before .before .before .before .before .before .before .before .before .before .before .before .args .file .now)))
@@ -67,8 +68,8 @@ loop-holds c =
 later-type-requires : tie.Need-later-type-requires Inv-loop2 μ-loop2 Inv-loop μ-loop
 later-type-requires c κs = search needs
 
-run-length-requires : tie.Need-run-length-requires Inv-loop2 μ-loop2 Inv-loop μ-loop
-run-length-requires c κs = search needs
+count-of-requires : tie.Need-count-of-requires Inv-loop2 μ-loop2 Inv-loop μ-loop
+count-of-requires c κs = search needs
 
 loop2-holds : tie.Need-loop2-holds Inv-loop2 μ-loop2 Inv-loop μ-loop
 loop2-holds c =
@@ -145,7 +146,7 @@ loop-again : tie.Need-loop-again Inv-loop2 μ-loop2 Inv-loop μ-loop
 loop-again c =
     let l = c .before .loop2 in
     let x = c .before .before .before .before .before .before .before .before .args in
-    (omega arith, walked-run (x .file .now) (x .n) (l .at) (l .line) (c .before .before .before .later-type .result) (l .k) _ (l .inv .1) (omega (arith, c .before .before .run-length .ensures)))
+    (omega arith, walked-run (x .file .now) (x .n) (l .at) (l .line) (c .before .before .before .later-type .result) (l .k) _ (l .inv .1) (omega (arith, c .before .before .count-of .ensures)))
 
 refused-requires-3 : tie.Need-refused-requires-3 Inv-loop2 μ-loop2 Inv-loop μ-loop
 refused-requires-3 c κs = search needs
@@ -184,7 +185,7 @@ walk-later-spec =
     add-line
     loop-holds
     later-type-requires
-    run-length-requires
+    count-of-requires
     loop2-holds
     refused-requires
     returns

@@ -1,7 +1,7 @@
 -- `writer::lines::hour_values` meets its contract, type by type. Assumes nothing.
-use Rattle.edr.specs.declared.layout.RecordType.the-variants.{QuarterTotals}
+use Rattle.layout.specs.declared.RecordType.the-variants.{QuarterTotals}
 use native.Mathlib.Omega.{arith}
-use Rattle.edr.specs.Layout.{dateColumn}
+use Rattle.layout.specs.Layout.{dateColumn}
 use Prim.Native.Nat.{_≤_}
 use borrow.Author.Needs.{needs}
 use Rattle.writer.proofs.lines.hour_values.Statement.{statement}

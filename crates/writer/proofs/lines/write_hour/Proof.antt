@@ -2,7 +2,7 @@
 use native.Mathlib.Omega.{arith}
 use Rattle.columns.specs.Written.{digitsOf}
 use Rattle.columns.specs.WrittenLaws.{digits-length}
-use Rattle.edr.specs.Layout.{lengthOf, offsetOf}
+use Rattle.layout.specs.Layout.{lengthOf, offsetOf, shape}
 use Rattle.writer.specs.Written.{datedRecord}
 use Rattle.writer.specs.LineLaws.{dated-length}
 use Rattle.writer.proofs.Filling.{line-put}
@@ -51,7 +51,7 @@ returns c =
     let x = s .args in
     let r = line-room (x .n) (x .t) (x .k) (s .pre .4) (s .pre .0) in
     rw (c .before .before .hour-record .ensures, l .line-length .ensures .0, l .before .offset-of .ensures)
-    (line-put (offsetOf (x .n) (x .t) (x .k)) (lengthOf (x .t)) (x .buffer .now) (datedRecord (x .name .now) (x .t) (digitsOf 8 (x .date)) (x .h))
+    (line-put (offsetOf (shape (x .n)) (x .t) (x .k)) (lengthOf (x .t)) (x .buffer .now) (datedRecord (x .name .now) (x .t) (digitsOf 8 (x .date)) (x .h))
     (dated-length (x .name .now) (s .pre .3) (x .t) (digitsOf 8 (x .date)) (x .h) (digits-length 8 (x .date))) (omega arith))
 
 pub write-hour-spec : {M : Type 1} → statement M

@@ -4,8 +4,8 @@ use mathlib.Core.Path.{_≡_, refl, sym, _∙_}
 use native.Mathlib.Omega.{arith}
 use borrow.Author.Needs.{needs}
 use lib.ListN.{length, take}
-use Rattle.edr.specs.Layout.{valueCount, valuesOf}
-use Rattle.edr.specs.ValueLaws.{value-inside}
+use Rattle.layout.specs.Layout.{valueCount, valuesOf}
+use Rattle.layout.specs.ValueLaws.{value-inside}
 use Rattle.writer.specs.Written.{valued}
 use Rattle.writer.specs.LineLaws.{values-few}
 use Rattle.writer.proofs.Filling.{valuesLeft, values-more, values-end}

@@ -2,8 +2,8 @@
 use mathlib.Core.Path.{_≡_, sym, _∙_}
 use mathlib.Core.Bool.{Bool, true}
 use borrow.Author.Tests.{not-true, not-false}
-use Rattle.edr.specs.Layout.{values, heatRate, so2Rate, noxRate, co2Rate}
-use Rattle.edr.specs.declared.hour.Figures.{Figures}
+use Rattle.layout.specs.Layout.{heatRate, so2Rate, noxRate, co2Rate}
+use Rattle.formulas.specs.declared.hour.Figures.{Figures}
 use Rattle.writer.specs.Refusals.{inRange, figuresHold}
 use borrow.Author.Needs.{needs}
 use Rattle.writer.proofs.refusals.figures_hold.Statement.{statement}
@@ -13,7 +13,7 @@ in-range-requires : tie.Need-in-range-requires
 in-range-requires c κs = search needs
 
 returns : tie.Need-returns
-unfolding figuresHold values
+unfolding figuresHold
 returns c =
     rw (
       ← c .before .in-range .ensures,
@@ -24,7 +24,7 @@ in-range-requires-2 : tie.Need-in-range-requires-2
 in-range-requires-2 c κs = search needs
 
 returns-2 : tie.Need-returns-2
-unfolding figuresHold values
+unfolding figuresHold
 returns-2 c =
     rw (
       ← c .before .before .before .in-range .ensures,
@@ -37,7 +37,7 @@ in-range-requires-3 : tie.Need-in-range-requires-3
 in-range-requires-3 c κs = search needs
 
 returns-3 : tie.Need-returns-3
-unfolding figuresHold values
+unfolding figuresHold
 returns-3 c =
     rw (
       ← c .before .before .before .before .before .in-range .ensures,
@@ -58,7 +58,6 @@ unfolding figuresHold
 figures-told f p q r e = rw (p, q, r) e
 
 returns-4 : tie.Need-returns-4
-unfolding values
 returns-4 c =
     let third = c .before .before in
     let second = third .before .before in

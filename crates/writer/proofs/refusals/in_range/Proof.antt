@@ -4,7 +4,7 @@ use mathlib.Core.Path.{_≡_, refl}
 use mathlib.Core.Bool.{Bool, false}
 use lib.Dec.{leb}
 use borrow.Author.Tests.{le-leb, lt-leb}
-use Rattle.edr.specs.declared.layout.Value.{Value}
+use Rattle.layout.specs.declared.Value.{Value}
 use Rattle.writer.specs.Refusals.{inRange}
 use borrow.Author.Needs.{needs}
 use Rattle.writer.proofs.refusals.in_range.Statement.{statement}

@@ -2,7 +2,7 @@
 use mathlib.Core.Path.{_≡_, sym, _∙_}
 use mathlib.Core.Bool.{Bool, true}
 use borrow.Author.Tests.{not-true, not-false}
-use Rattle.edr.specs.Layout.{values, so2Ppm, noxPpm, co2Percent, flowScfh, timeHours, fFactor}
+use Rattle.layout.specs.Layout.{so2Ppm, noxPpm, co2Percent, flowScfh, timeHours, fFactor}
 use Rattle.writer.specs.Refusals.{inRange, readingsHold}
 use Rattle.writer.specs.declared.sheet.SheetHour.{SheetHour}
 use borrow.Author.Needs.{needs}
@@ -13,7 +13,7 @@ in-range-requires : tie.Need-in-range-requires
 in-range-requires c κs = search needs
 
 returns : tie.Need-returns
-unfolding readingsHold values
+unfolding readingsHold
 returns c =
     rw (
       ← c .before .in-range .ensures,
@@ -24,7 +24,7 @@ in-range-requires-2 : tie.Need-in-range-requires-2
 in-range-requires-2 c κs = search needs
 
 returns-2 : tie.Need-returns-2
-unfolding readingsHold values
+unfolding readingsHold
 returns-2 c =
     rw (
       ← c .before .before .before .in-range .ensures,
@@ -37,7 +37,7 @@ in-range-requires-3 : tie.Need-in-range-requires-3
 in-range-requires-3 c κs = search needs
 
 returns-3 : tie.Need-returns-3
-unfolding readingsHold values
+unfolding readingsHold
 returns-3 c =
     rw (
       ← c .before .before .before .before .before .in-range .ensures,
@@ -52,7 +52,7 @@ in-range-requires-4 : tie.Need-in-range-requires-4
 in-range-requires-4 c κs = search needs
 
 returns-4 : tie.Need-returns-4
-unfolding readingsHold values
+unfolding readingsHold
 returns-4 c =
     rw (
       ← c .before .before .before .before .before .before .before .in-range .ensures,
@@ -69,7 +69,7 @@ in-range-requires-5 : tie.Need-in-range-requires-5
 in-range-requires-5 c κs = search needs
 
 returns-5 : tie.Need-returns-5
-unfolding readingsHold values
+unfolding readingsHold
 returns-5 c =
     rw (
       ← c .before .before .before .before .before .before .before .before .before .in-range .ensures,
@@ -94,7 +94,6 @@ unfolding readingsHold
 readings-told h p q r s t e = rw (p, q, r, s, t) e
 
 returns-6 : tie.Need-returns-6
-unfolding values
 returns-6 c =
     let fifth = c .before .before in
     let fourth = fifth .before .before in

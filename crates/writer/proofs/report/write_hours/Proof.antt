@@ -5,12 +5,12 @@ use mathlib.Core.Path.{_≡_, refl, sym, ap, _∙_}
 use native.Mathlib.Omega.{arith}
 use lib.ListN.{length}
 use borrow.Author.Needs.{needs}
-use Rattle.edr.specs.Hour.{HourWithin}
-use Rattle.edr.specs.Stamp.{stampOf}
-use Rattle.edr.specs.Totals.{Room, noTotals, withHour, runningTotals, quarterOf, quarterTotals}
-use Rattle.edr.specs.TotalLaws.{running-totals}
-use Rattle.edr.specs.declared.hour.Hour.{Hour}
-use Rattle.edr.specs.declared.totals.Totals.{Totals}
+use Rattle.formulas.specs.Hour.{HourWithin}
+use Rattle.stamp.specs.Stamp.{stampOf}
+use Rattle.totals.specs.Totals.{Room, noTotals, withHour, runningTotals, quarterOf, quarterTotals}
+use Rattle.totals.specs.TotalLaws.{running-totals}
+use Rattle.formulas.specs.declared.hour.Hour.{Hour}
+use Rattle.totals.specs.declared.Totals.{Totals}
 use Rattle.writer.specs.Sheet.{hourCount, hourAt, hoursOf, recordedHour, recordedHours}
 use Rattle.writer.specs.SheetLaws.{hours-whole}
 use Rattle.writer.specs.RefusalLaws.{hour-writable}

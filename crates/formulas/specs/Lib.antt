@@ -1,0 +1,4 @@
+pub mod Hour
+pub mod Formulas
+pub mod FormulaLaws
+pub mod Tried

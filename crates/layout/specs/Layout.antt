@@ -1,0 +1,215 @@
+-- The records of a report: one row a type, and their order. Everything else is derived from the two. Columns count from 1.
+use Prim.Native.Nat.{ℕ, zero, suc, _+_, _*_, _-_, _≤_, _^_}
+use mathlib.Core.Bool.{cond}
+use mathlib.Core.List.{List, [], _∷_, _++_}
+use lib.Dec.{eqb}
+use lib.ListN.{length, getD, take, drop}
+use Rattle.exact.specs.Sums.{totalOf}
+use Rattle.layout.specs.declared.RecordType.{RecordType}
+use Rattle.layout.specs.declared.RecordType.the-variants.{Facility, So2Concentration, NoxConcentration, Co2Concentration, VolumetricFlow, Operation, QuarterTotals, So2Mass, NoxRate, Co2Mass}
+use Rattle.layout.specs.declared.Value.{Value}
+use Rattle.layout.specs.declared.Shape.{Shape}
+use Rattle.layout.specs.declared.Run.{Run}
+use Rattle.layout.specs.declared.Run.the-variants.{Once, Hourly}
+use Rattle.layout.specs.declared.Row.{Row}
+use Rattle.layout.specs.declared.Front.{Front}
+
+-- a number of a range
+abbrev pub rangedValue : (start width decimals least most : ℕ) → Value
+rangedValue start width decimals least most = record { start = start; width = width; decimals = decimals; least = least; most = most }
+
+-- every line has its type and its stack name
+
+abbrev pub typeStart : ℕ
+typeStart = 1
+
+abbrev pub typeWidth : ℕ
+typeWidth = 3
+
+abbrev pub stackStart : ℕ
+stackStart = 4
+
+abbrev pub stackWidth : ℕ
+stackWidth = 6
+
+-- line 100, digits only
+
+abbrev pub yearDigits : Value
+yearDigits = rangedValue 10 4 0 1995 2094
+
+abbrev pub quarterDigit : Value
+quarterDigit = rangedValue 14 1 0 1 4
+
+-- a number with decimals that may be anything its columns hold: all of them but the point's
+abbrev pub anyDecimal : (start width decimals : ℕ) → Value
+anyDecimal start width decimals = rangedValue start width decimals 0 (10 ^ (width - 1) - 1)
+
+abbrev pub noValue : Value
+noValue = rangedValue 0 0 0 0 0
+
+abbrev pub so2Ppm : Value
+so2Ppm = anyDecimal 35 6 1
+
+abbrev pub noxPpm : Value
+noxPpm = anyDecimal 29 6 1
+
+abbrev pub co2Percent : Value
+co2Percent = rangedValue 29 6 1 1 1000
+
+abbrev pub flowScfh : Value
+flowScfh = rangedValue 39 10 0 0 500000000
+
+abbrev pub timeHours : Value
+timeHours = rangedValue 18 4 2 1 100
+
+abbrev pub heatRate : Value
+heatRate = anyDecimal 36 7 1
+
+abbrev pub so2Tons : Value
+so2Tons = anyDecimal 10 11 1
+
+abbrev pub co2Tons : Value
+co2Tons = anyDecimal 21 11 1
+
+abbrev pub heatTotal : Value
+heatTotal = anyDecimal 32 11 1
+
+abbrev pub noxMean : Value
+noxMean = anyDecimal 43 6 3
+
+abbrev pub so2Rate : Value
+so2Rate = anyDecimal 25 7 1
+
+abbrev pub fFactor : Value
+fFactor = rangedValue 26 10 1 5000 30000
+
+abbrev pub noxRate : Value
+noxRate = anyDecimal 36 6 3
+
+abbrev pub co2Rate : Value
+co2Rate = anyDecimal 18 7 1
+
+-- a report of so many operating hours
+abbrev pub shape : ℕ → Shape
+shape n = record { hours = n }
+
+-- how many lines a run has in a report of a shape
+abbrev pub linesOf : Run → Shape → ℕ
+linesOf Once s = 1
+linesOf Hourly s = s .hours
+
+-- a type's code; its length without byte 10; where date and hour start (0 where it has none); its run of lines; its values, left to right
+pub record Record : Type 0 where
+  pub code : ℕ
+  pub length : ℕ
+  pub date : ℕ
+  pub run : Run
+  pub values : List Value
+
+abbrev row : (code length date : ℕ) → Run → List Value → Record
+row code length date run values = record { code = code; length = length; date = date; run = run; values = values }
+
+abbrev pub recordOf : RecordType → Record
+recordOf Facility = row 100 14 0 Once []
+recordOf So2Concentration = row 200 40 16 Hourly (so2Ppm ∷ [])
+recordOf NoxConcentration = row 201 34 16 Hourly (noxPpm ∷ [])
+recordOf Co2Concentration = row 202 34 16 Hourly (co2Percent ∷ [])
+recordOf VolumetricFlow = row 220 48 16 Hourly (flowScfh ∷ [])
+recordOf Operation = row 300 42 10 Hourly (timeHours ∷ heatRate ∷ [])
+recordOf QuarterTotals = row 301 48 0 Once (so2Tons ∷ co2Tons ∷ heatTotal ∷ noxMean ∷ [])
+recordOf So2Mass = row 310 34 10 Hourly (so2Rate ∷ [])
+recordOf NoxRate = row 320 54 13 Hourly (fFactor ∷ noxRate ∷ [])
+recordOf Co2Mass = row 330 24 10 Hourly (co2Rate ∷ [])
+
+abbrev pub order : List RecordType
+order = Facility ∷ So2Concentration ∷ NoxConcentration ∷ Co2Concentration ∷ VolumetricFlow ∷ Operation ∷ QuarterTotals ∷ So2Mass ∷ NoxRate ∷ Co2Mass ∷ []
+
+abbrev pub codeOf : RecordType → ℕ
+codeOf t = recordOf t .code
+
+abbrev pub lengthOf : RecordType → ℕ
+lengthOf t = recordOf t .length
+
+abbrev pub dateColumn : RecordType → ℕ
+dateColumn t = recordOf t .date
+
+abbrev pub valuesOf : RecordType → List Value
+valuesOf t = recordOf t .values
+
+abbrev pub valueCount : RecordType → ℕ
+valueCount t = length (valuesOf t)
+
+-- the i-th value of a record from the left, from 0
+abbrev pub valueAt : RecordType → ℕ → Value
+valueAt t i = getD (valuesOf t) i noValue
+
+-- the numbers of a row, as the code has them
+abbrev pub rowOf : RecordType → Row
+rowOf t = record { code = codeOf t; length = lengthOf t; date = dateColumn t; run = recordOf t .run; values = valueCount t }
+
+-- the place of a type in the order, found by its code
+abbrev pub placeOf : ℕ → List RecordType → ℕ
+placeOf code [] = 0
+placeOf code (t ∷ ts) = cond (eqb (codeOf t) code) 0 (suc (placeOf code ts))
+
+abbrev pub rankOf : RecordType → ℕ
+rankOf t = placeOf (codeOf t) order
+
+abbrev pub typeAt : ℕ → RecordType
+typeAt place = getD order place Facility
+
+-- the types in front of one, and those behind it
+abbrev pub earlier : RecordType → List RecordType
+earlier t = take (rankOf t) order
+
+abbrev pub later : RecordType → List RecordType
+later t = drop (rankOf t + 1) order
+
+-- those of which every operating hour has a line
+abbrev keepHourly : Run → RecordType → List RecordType → List RecordType
+keepHourly Once t ts = ts
+keepHourly Hourly t ts = t ∷ ts
+
+abbrev pub hourly : List RecordType → List RecordType
+hourly [] = []
+hourly (t ∷ ts) = keepHourly (recordOf t .run) t (hourly ts)
+
+-- how many lines of a type a report of a shape has, and their bytes, each line with its byte 10
+abbrev pub countOf : Shape → RecordType → ℕ
+countOf s t = linesOf (recordOf t .run) s
+
+abbrev pub bytesOf : Shape → RecordType → ℕ
+bytesOf s t = (lengthOf t + 1) * countOf s t
+
+-- the lines and bytes in front of a type: those of the types before it, one after the other
+abbrev pub past : Shape → Front → RecordType → Front
+past s b t = record { lines = b .lines + countOf s t; bytes = b .bytes + bytesOf s t }
+
+abbrev pub upTo : ℕ → Shape → Front → List RecordType → Front
+upTo code s b [] = b
+upTo code s b (t ∷ ts) = cond (eqb (codeOf t) code) b (upTo code s (past s b t) ts)
+
+abbrev pub nothing : Front
+nothing = record { lines = 0; bytes = 0 }
+
+abbrev pub frontOf : Shape → RecordType → Front
+frontOf s t = upTo (codeOf t) s nothing order
+
+-- the line of the record of rank k (from 0) of a type; the first line is 1
+abbrev pub lineOf : Shape → RecordType → ℕ → ℕ
+lineOf s t k = 1 + frontOf s t .lines + k
+
+-- where that line starts, in bytes
+abbrev pub offsetOf : Shape → RecordType → ℕ → ℕ
+offsetOf s t k = frontOf s t .bytes + (lengthOf t + 1) * k
+
+unfoldable pub reportLength : Shape → ℕ
+reportLength s = totalOf (bytesOf s) order
+
+-- the counts of a quarter
+pub record Held (s : Shape) : Type 0 where
+  pub hours : s .hours ≤ 2208
+
+pub record Within (v : Value) (k : ℕ) : Type 0 where
+  pub least : v .least ≤ k
+  pub most : k ≤ v .most

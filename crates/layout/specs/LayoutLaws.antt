@@ -1,0 +1,78 @@
+-- What is proved of the table and the order: a test over all rows holds of each; a report of n operating hours has 64 + 318 × n bytes.
+use mathlib.Core.Path.{_≡_, refl, sym, ap, _∙_}
+use mathlib.Core.Bool.{Bool, true, false, cond, _&&_}
+use mathlib.Core.List.{List, [], _∷_, _++_}
+use Prim.Native.Nat.{ℕ, zero, suc, _+_, _*_, _-_, _≤_, _<_}
+use native.Mathlib.Omega.{arith}
+use native.Mathlib.Nat.{le-of-suc-le-suc, not-suc-le-zero}
+use lib.Dec.{leb, lit≤}
+use lib.ListN.{length, getD}
+use borrow.Author.Tests.{leb-true}
+use Rattle.exact.specs.Sums.{totalOf}
+use Rattle.layout.specs.Layout.{codeOf, lengthOf, dateColumn, valueCount, linesOf, recordOf, countOf, bytesOf, order, rankOf, typeAt, reportLength, Held}
+use Rattle.layout.specs.declared.RecordType.{RecordType}
+use Rattle.layout.specs.declared.RecordType.the-variants.{Facility, So2Concentration, NoxConcentration, Co2Concentration, VolumetricFlow, Operation, QuarterTotals, So2Mass, NoxRate, Co2Mass}
+use Rattle.layout.specs.declared.Run.{Run}
+use Rattle.layout.specs.declared.Run.the-variants.{Once, Hourly}
+use Rattle.layout.specs.declared.Shape.{Shape}
+
+-- a test of a type, of all types
+abbrev allTypes : (RecordType → Bool) → List RecordType → Bool
+allTypes p [] = true
+allTypes p (t ∷ ts) = p t && allTypes p ts
+
+pub both : (p q : Bool) → (p && q) ≡ true → (p ≡ true) × (q ≡ true)
+both true q e = (refl, e)
+both false q e = absurd (let z : _≡_ {A = ℕ} 0 1 = ap (λ (b : Bool). cond b 1 0) e in omega arith)
+
+-- every type stands in the order
+pub in-order : (t : RecordType) → (rankOf t < length order) × (typeAt (rankOf t) ≡ t)
+in-order Facility = (lit≤ tt, refl)
+in-order So2Concentration = (lit≤ tt, refl)
+in-order NoxConcentration = (lit≤ tt, refl)
+in-order Co2Concentration = (lit≤ tt, refl)
+in-order VolumetricFlow = (lit≤ tt, refl)
+in-order Operation = (lit≤ tt, refl)
+in-order QuarterTotals = (lit≤ tt, refl)
+in-order So2Mass = (lit≤ tt, refl)
+in-order NoxRate = (lit≤ tt, refl)
+in-order Co2Mass = (lit≤ tt, refl)
+
+all-at : (p : RecordType → Bool) (ts : List RecordType) (i : ℕ) (d : RecordType) → allTypes p ts ≡ true → i < length ts → p (getD ts i d) ≡ true
+all-at p [] i d e h = absurd (not-suc-le-zero h)
+all-at p (t ∷ ts) zero d e h = both (p t) (allTypes p ts) e .0
+all-at p (t ∷ ts) (suc i) d e h = all-at p ts i d (both (p t) (allTypes p ts) e .1) (le-of-suc-le-suc h)
+
+-- what a test computed over the order shows of each type
+pub each : (p : RecordType → Bool) → allTypes p order ≡ true → (t : RecordType) → p t ≡ true
+each p e t = ap p (sym (in-order t .1)) ∙ all-at p order (rankOf t) Facility e (in-order t .0)
+
+pub each-le : (f g : RecordType → ℕ) → allTypes (λ t. leb (f t) (g t)) order ≡ true → (t : RecordType) → f t ≤ g t
+each-le f g e t = leb-true (f t) (g t) (each (λ t. leb (f t) (g t)) e t)
+
+pub length-most : (t : RecordType) → lengthOf t ≤ 99
+length-most t = each-le (λ t. lengthOf t) (λ t. 99) refl t
+
+pub length-least : (t : RecordType) → 14 ≤ lengthOf t
+length-least t = each-le (λ t. 14) (λ t. lengthOf t) refl t
+
+pub values-most : (t : RecordType) → valueCount t ≤ 8
+values-most t = each-le (λ t. valueCount t) (λ t. 8) refl t
+
+-- date and hour, eight columns, lie within the line and behind the stack name
+pub date-inside : (t : RecordType) → (1 ≤ dateColumn t) → (10 ≤ dateColumn t) × (dateColumn t + 7 ≤ lengthOf t)
+date-inside t h =
+    let a = each-le (λ t. 10) (λ t. dateColumn t + (10 - 10 * dateColumn t)) refl t in
+    let b = each-le (λ t. dateColumn t + 7) (λ t. lengthOf t) refl t in
+    omega arith
+
+pub count-most : (s : Shape) → Held s → (t : RecordType) → countOf s t ≤ 2208
+count-most s h t = go (recordOf t .run)
+  where
+    go : (run : Run) → linesOf run s ≤ 2208
+    go Once = omega arith
+    go Hourly = omega arith
+
+pub report-length : (s : Shape) → reportLength s ≡ 64 + 318 * s .hours
+unfolding reportLength totalOf
+report-length s = omega arith

@@ -1,0 +1,5 @@
+pub mod Layout
+pub mod LayoutLaws
+pub mod ValueLaws
+pub mod Lead
+pub mod PlaceLaws

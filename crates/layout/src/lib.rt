@@ -1,0 +1,466 @@
+// The records of a quarterly report: one row a type, and their order, for reader and writer alike.
+ghost use mathlib.Core.Path.{_≡_};
+ghost use Prim.Native.Nat.{_+_, _*_, _≤_, _<_};
+ghost use lib.ListN.{length};
+ghost use Rattle.layout.specs.Lead.{leading, leadOf};
+ghost use Rattle.layout.specs.Layout.{codeOf, lengthOf, dateColumn, rowOf, countOf, typeAt, frontOf, lineOf, offsetOf, Held, valueCount, valueAt};
+
+// Every line has its type and its stack name; line 100 has the year and the quarter, digits only.
+pub const TYPE_START: usize = 1;
+
+pub const TYPE_WIDTH: usize = 3;
+
+pub const STACK_START: usize = 4;
+
+pub const STACK_END: usize = 9;
+
+pub const YEAR_START: usize = 10;
+
+pub const YEAR_WIDTH: usize = 4;
+
+pub const YEAR_LEAST: u64 = 1995;
+
+pub const YEAR_MOST: u64 = 2094;
+
+pub const QUARTER_START: usize = 14;
+
+pub const QUARTER_WIDTH: usize = 1;
+
+pub const QUARTER_LEAST: u64 = 1;
+
+pub const QUARTER_MOST: u64 = 4;
+
+// Line 100 and a 200 line: their length, and with byte 10; where the date of a 200 line starts.
+pub const FACILITY_LENGTH: usize = 14;
+
+pub const FACILITY_BYTES: usize = FACILITY_LENGTH + 1;
+
+pub const SO2_LENGTH: usize = 40;
+
+pub const SO2_BYTES: usize = SO2_LENGTH + 1;
+
+pub const SO2_DATE: usize = 16;
+
+pub enum RecordType {
+    // 100
+    Facility,
+    // 200
+    So2Concentration,
+    // 201
+    NoxConcentration,
+    // 202
+    Co2Concentration,
+    // 220
+    VolumetricFlow,
+    // 300
+    Operation,
+    // 301
+    QuarterTotals,
+    // 310
+    So2Mass,
+    // 320
+    NoxRate,
+    // 330
+    Co2Mass,
+}
+
+// A value's first column (from 1), width and decimals (0: a whole number), and the least and the most it may be, in units of its last decimal.
+pub struct Value {
+    pub start: usize,
+    pub width: usize,
+    pub decimals: usize,
+    pub least: u64,
+    pub most: u64,
+}
+
+// How many lines a report has.
+pub struct Shape {
+    pub hours: usize,
+}
+
+// How many lines of a type there are: one, or one for each operating hour.
+pub enum Run {
+    Once,
+    Hourly,
+}
+
+// The lines and the bytes in front of a type.
+pub struct Front {
+    pub lines: usize,
+    pub bytes: usize,
+}
+
+// What stands in front of a type: lines of their own, and those of one operating hour.
+struct Lead {
+    once: Front,
+    hourly: Front,
+}
+
+// A type's code, the length of its line without byte 10, where date and hour start (0 where it has none), its run of lines, how many values it has.
+pub struct Row {
+    pub code: u64,
+    pub length: usize,
+    pub date: usize,
+    pub run: Run,
+    pub values: usize,
+}
+
+pub fn row_of(t: RecordType) -> Row
+    ensures { λ r. ⌜ r ≡ rowOf t ⌝ }
+{
+    match t {
+        RecordType::Facility => Row {
+            code: 100,
+            length: FACILITY_LENGTH,
+            date: 0,
+            run: Run::Once,
+            values: 0,
+        },
+        RecordType::So2Concentration => Row {
+            code: 200,
+            length: SO2_LENGTH,
+            date: SO2_DATE,
+            run: Run::Hourly,
+            values: 1,
+        },
+        RecordType::NoxConcentration => Row {
+            code: 201,
+            length: 34,
+            date: 16,
+            run: Run::Hourly,
+            values: 1,
+        },
+        RecordType::Co2Concentration => Row {
+            code: 202,
+            length: 34,
+            date: 16,
+            run: Run::Hourly,
+            values: 1,
+        },
+        RecordType::VolumetricFlow => Row {
+            code: 220,
+            length: 48,
+            date: 16,
+            run: Run::Hourly,
+            values: 1,
+        },
+        RecordType::Operation => Row {
+            code: 300,
+            length: 42,
+            date: 10,
+            run: Run::Hourly,
+            values: 2,
+        },
+        RecordType::QuarterTotals => Row {
+            code: 301,
+            length: 48,
+            date: 0,
+            run: Run::Once,
+            values: 4,
+        },
+        RecordType::So2Mass => Row {
+            code: 310,
+            length: 34,
+            date: 10,
+            run: Run::Hourly,
+            values: 1,
+        },
+        RecordType::NoxRate => Row {
+            code: 320,
+            length: 54,
+            date: 13,
+            run: Run::Hourly,
+            values: 2,
+        },
+        RecordType::Co2Mass => Row {
+            code: 330,
+            length: 24,
+            date: 10,
+            run: Run::Hourly,
+            values: 1,
+        },
+    }
+}
+
+// How many lines of a type a report of a shape has.
+pub fn count_of(s: Shape, t: RecordType) -> usize
+    ensures { λ r. ⌜ r ≡ countOf s t ⌝ }
+{
+    let run = row_of(t).run;
+    match run {
+        Run::Once => 1,
+        Run::Hourly => s.hours,
+    }
+}
+
+const ORDER: [RecordType; 10] = [
+    RecordType::Facility,
+    RecordType::So2Concentration,
+    RecordType::NoxConcentration,
+    RecordType::Co2Concentration,
+    RecordType::VolumetricFlow,
+    RecordType::Operation,
+    RecordType::QuarterTotals,
+    RecordType::So2Mass,
+    RecordType::NoxRate,
+    RecordType::Co2Mass,
+];
+
+// The types in the order of a report.
+pub fn type_at(place: usize) -> RecordType
+    requires { ⌜ place < 10 ⌝ }
+    ensures { λ r. ⌜ r ≡ typeAt place ⌝ }
+{
+    ORDER[place]
+}
+
+fn leading(lines: usize, bytes: usize, more: usize, longer: usize) -> Lead
+    ensures { λ r. ⌜ r ≡ leading lines bytes more longer ⌝ }
+{
+    Lead {
+        once: Front { lines, bytes },
+        hourly: Front {
+            lines: more,
+            bytes: longer,
+        },
+    }
+}
+
+// What stands in front of a type: lines of their own and their bytes, and those of one operating hour.
+fn lead_of(t: RecordType) -> Lead
+    ensures { λ r. ⌜ r ≡ leadOf t ⌝ }
+{
+    match t {
+        RecordType::Facility => leading(0, 0, 0, 0),
+        RecordType::So2Concentration => leading(1, 15, 0, 0),
+        RecordType::NoxConcentration => leading(1, 15, 1, 41),
+        RecordType::Co2Concentration => leading(1, 15, 2, 76),
+        RecordType::VolumetricFlow => leading(1, 15, 3, 111),
+        RecordType::Operation => leading(1, 15, 4, 160),
+        RecordType::QuarterTotals => leading(1, 15, 5, 203),
+        RecordType::So2Mass => leading(2, 64, 5, 203),
+        RecordType::NoxRate => leading(2, 64, 6, 238),
+        RecordType::Co2Mass => leading(2, 64, 7, 293),
+    }
+}
+
+fn sized(once: usize, hourly: usize, hours: usize) -> usize
+    requires { ⌜ (once ≤ 1000) × (hourly ≤ 1000) × (hours ≤ 2208) ⌝ }
+    ensures { λ r. ⌜ (r ≡ once + hourly * hours) × (r ≤ 10000000) ⌝ }
+{
+    once + hourly * hours
+}
+
+// The lines and the bytes in front of a type.
+pub fn front_of(s: Shape, t: RecordType) -> Front
+    requires { ⌜ Held s ⌝ }
+    ensures { λ r. ⌜ (r ≡ frontOf s t) × (r .lines ≤ 10000000) × (r .bytes ≤ 10000000) ⌝ }
+{
+    let lead = lead_of(t);
+    Front {
+        lines: sized(lead.once.lines, lead.hourly.lines, s.hours),
+        bytes: sized(lead.once.bytes, lead.hourly.bytes, s.hours),
+    }
+}
+
+// The line of a type's record of rank k, from 0; the first line is 1.
+pub fn line_of(s: Shape, t: RecordType, k: usize) -> usize
+    requires { ⌜ Held s × (k ≤ 2208) ⌝ }
+    ensures { λ r. ⌜ r ≡ lineOf s t k ⌝ }
+{
+    1 + front_of(s, t).lines + k
+}
+
+// Where that line starts, in bytes.
+pub fn offset_of(s: Shape, t: RecordType, k: usize) -> usize
+    requires { ⌜ Held s × (k ≤ 2208) ⌝ }
+    ensures { λ r. ⌜ r ≡ offsetOf s t k ⌝ }
+{
+    front_of(s, t).bytes + (row_of(t).length + 1) * k
+}
+
+const NO_VALUE: Value = Value {
+    start: 0,
+    width: 0,
+    decimals: 0,
+    least: 0,
+    most: 0,
+};
+
+const SO2_PPM: Value = Value {
+    start: 35,
+    width: 6,
+    decimals: 1,
+    least: 0,
+    most: 99999,
+};
+
+const NOX_PPM: Value = Value {
+    start: 29,
+    width: 6,
+    decimals: 1,
+    least: 0,
+    most: 99999,
+};
+
+const CO2_PERCENT: Value = Value {
+    start: 29,
+    width: 6,
+    decimals: 1,
+    least: 1,
+    most: 1000,
+};
+
+const FLOW_SCFH: Value = Value {
+    start: 39,
+    width: 10,
+    decimals: 0,
+    least: 0,
+    most: 500000000,
+};
+
+const TIME_HOURS: Value = Value {
+    start: 18,
+    width: 4,
+    decimals: 2,
+    least: 1,
+    most: 100,
+};
+
+const HEAT_RATE: Value = Value {
+    start: 36,
+    width: 7,
+    decimals: 1,
+    least: 0,
+    most: 999999,
+};
+
+const SO2_TONS: Value = Value {
+    start: 10,
+    width: 11,
+    decimals: 1,
+    least: 0,
+    most: 9999999999,
+};
+
+const CO2_TONS: Value = Value {
+    start: 21,
+    width: 11,
+    decimals: 1,
+    least: 0,
+    most: 9999999999,
+};
+
+const HEAT_TOTAL: Value = Value {
+    start: 32,
+    width: 11,
+    decimals: 1,
+    least: 0,
+    most: 9999999999,
+};
+
+const NOX_MEAN: Value = Value {
+    start: 43,
+    width: 6,
+    decimals: 3,
+    least: 0,
+    most: 99999,
+};
+
+const SO2_RATE: Value = Value {
+    start: 25,
+    width: 7,
+    decimals: 1,
+    least: 0,
+    most: 999999,
+};
+
+const F_FACTOR: Value = Value {
+    start: 26,
+    width: 10,
+    decimals: 1,
+    least: 5000,
+    most: 30000,
+};
+
+const NOX_RATE: Value = Value {
+    start: 36,
+    width: 6,
+    decimals: 3,
+    least: 0,
+    most: 99999,
+};
+
+const CO2_RATE: Value = Value {
+    start: 18,
+    width: 7,
+    decimals: 1,
+    least: 0,
+    most: 999999,
+};
+
+// The totals of record 301.
+fn total_at(i: usize) -> Value
+    requires { ⌜ i < valueCount RecordType.QuarterTotals ⌝ }
+    ensures { λ r. ⌜ r ≡ valueAt RecordType.QuarterTotals i ⌝ }
+{
+    match i {
+        0 => SO2_TONS,
+        1 => CO2_TONS,
+        2 => HEAT_TOTAL,
+        _ => NOX_MEAN,
+    }
+}
+
+// The i-th value of a record from the left, from 0.
+pub fn value_at(t: RecordType, i: usize) -> Value
+    requires { ⌜ i < valueCount t ⌝ }
+    ensures { λ r. ⌜ r ≡ valueAt t i ⌝ }
+{
+    match t {
+        RecordType::Facility => NO_VALUE,
+        RecordType::So2Concentration => SO2_PPM,
+        RecordType::NoxConcentration => NOX_PPM,
+        RecordType::Co2Concentration => CO2_PERCENT,
+        RecordType::VolumetricFlow => FLOW_SCFH,
+        RecordType::Operation => match i {
+            0 => TIME_HOURS,
+            _ => HEAT_RATE,
+        },
+        RecordType::QuarterTotals => total_at(i),
+        RecordType::So2Mass => SO2_RATE,
+        RecordType::NoxRate => match i {
+            0 => F_FACTOR,
+            _ => NOX_RATE,
+        },
+        RecordType::Co2Mass => CO2_RATE,
+    }
+}
+
+// One column of the row each.
+pub fn type_code(t: RecordType) -> u64
+    ensures { λ r. ⌜ r ≡ codeOf t ⌝ }
+{
+    row_of(t).code
+}
+
+// The length of a line without its byte 10.
+pub fn line_length(t: RecordType) -> usize
+    ensures { λ r. ⌜ (r ≡ lengthOf t) × (r ≤ 99) ⌝ }
+{
+    row_of(t).length
+}
+
+// Where date and hour start; 0 where a record has none.
+pub fn date_column(t: RecordType) -> usize
+    ensures { λ r. ⌜ r ≡ dateColumn t ⌝ }
+{
+    row_of(t).date
+}
+
+// How many values a record has.
+pub fn value_count(t: RecordType) -> usize
+    ensures { λ r. ⌜ r ≡ valueCount t ⌝ }
+{
+    row_of(t).values
+}
