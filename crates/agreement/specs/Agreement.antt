@@ -1,133 +1,94 @@
 -- A sheet that the writer does not refuse gives a report that the check accepts, with the sheet's hours.
--- Assumes nothing.
-use Prim.Native.Nat.{ℕ, zero, suc, _+_, _*_, _-_, _/_, _%_, _≤_, _<_}
+use Prim.Native.Nat.{ℕ, zero, suc, _+_, _/_, _≤_, _<_}
 use mathlib.Core.Path.{_≡_, refl, sym, ap, _∙_}
-use mathlib.Core.List.{List, [], _∷_}
-use mathlib.Core.Bool.{Bool, true, false, not, _&&_}
+use mathlib.Core.List.{List, [], _∷_, map}
 use native.Mathlib.Omega.{arith}
-use lib.Dec.{eqb, leb}
 use lib.ListN.{length, take, drop}
 use lib.Seq.{take-at}
-use borrow.Author.Tests.{leb-true}
-use Rattle.columns.specs.Bytes.{isBlank, isPrintable, all}
-use Rattle.calendar.specs.Calendar.{IsQuarter, hoursInQuarter}
-use Rattle.calendar.specs.CalendarLaws.{hours-in-quarter}
-use Rattle.formulas.specs.Formulas.{roundedFigures}
-use Rattle.totals.specs.Totals.{totalsOf, quarterOf, quarterTotals}
+use Rattle.layout.specs.Layout.{stackWidth, reportLength}
+use Rattle.formulas.specs.Hour.{Unrounded, asRecorded}
+use Rattle.formulas.specs.FormulaLaws.{written-behind}
+use Rattle.formulas.specs.declared.hour.Hour.{Hour}
+use Rattle.totals.specs.Totals.{quarterTotals}
+use Rattle.totals.specs.TotalLaws.{quarter-hours}
 use Rattle.totals.specs.declared.Quarter.{Quarter}
 use Rattle.checker.specs.Checked.{acceptance, numbersOf, checked}
+use Rattle.checker.specs.Promise.{SetsBehind, HonestlyRounded}
+use Rattle.checker.specs.PromiseLaws.{honest-checked}
 use Rattle.checker.specs.declared.Answer.the-variants.{Accepted}
-use Rattle.writer.specs.Sheet.{hourCount, hoursFrom, hoursOf, recordedHours}
-use Rattle.writer.specs.Refusals.{every, headingHolds, kindsHold, hoursRise, sheetHolds, readingsHold, figuresHold, figuresFit, reportBytes, refusalOf}
-use Rattle.writer.specs.SheetLaws.{both, every-head, every-tail, rise-head, rise-tail, rise-count, hours-length, readings-within, figures-within}
+use Rattle.sheet.specs.Sheet.{hourWords, hourCount, shapeOf, hourAt, hoursFrom, hoursOf}
+use Rattle.sheet.specs.SheetLaws.{hours-count}
+use Rattle.sheet.specs.declared.SheetHour.{SheetHour}
+use Rattle.writer.specs.Recorded.{recordedHour, recordedHours}
+use Rattle.writer.specs.Refusals.{refusalOf}
+use Rattle.writer.specs.RefusalLaws.{not-refused}
+use Rattle.writer.specs.Writable.{HourWritable, Writable}
 use Rattle.writer.specs.Written.{report, answered, buffered}
 use Rattle.writer.specs.ReportLaws.{report-length}
 use Rattle.writer.specs.declared.Written.the-variants.{Length, Refused}
-use Rattle.agreement.specs.HourRecordLaws.{Head}
-use Rattle.agreement.specs.WalkLaws.{AllRight, HourRight}
-use Rattle.agreement.specs.TotalsFitLaws.{recorded-length}
-use Rattle.agreement.specs.AcceptedLaws.{report-accepted}
-use Rattle.writer.specs.declared.sheet.SheetHour.{SheetHour}
+use Rattle.agreement.specs.ReportLaws.{AllWritable, recorded-length, formed, own, report-clean}
+use Rattle.agreement.specs.ReadBackLaws.{hours-back, totals-back}
 
-never : {A : Type 0} → false ≡ true → A
-never e = absurd (let z : _≡_ {A = ℕ} 0 1 = cc in omega arith)
+-- the recorded readings lie behind the rounded figures
+abbrev sets : List SheetHour → List Unrounded
+sets hs = map (λ h. asRecorded (h .readings)) hs
 
-not-false : (b : Bool) → not b ≡ true → b ≡ false
-not-false true e = never e
-not-false false e = refl
+sets-behind : (hs : List SheetHour) → SetsBehind (recordedHours hs) (sets hs)
+unfolding recordedHours
+sets-behind [] = tt
+sets-behind (h ∷ hs) = ((λ q. written-behind q (recordedHour h) refl), sets-behind hs)
 
-module _ (year quarter : ℕ) (name sheet : List ℕ) where
-  heading-head : length name ≡ 6 → headingHolds year quarter name ≡ true → Head year quarter name
-  unfolding headingHolds
-  heading-head six e =
-      let a = both _ _ e in
-      let b = both _ _ (a .0) in
-      let c = both _ _ (b .0) in
-      let d = both _ _ (c .0) in
-      let f = both _ _ (d .0) in
-      record {
-        least = leb-true _ _ (f .0);
-        most = leb-true _ _ (f .1);
-        valid = record { least = leb-true _ _ (d .1); most = leb-true _ _ (c .1) };
-        six = six;
-        shown = a .1;
-        named = not-false (all isBlank name) (b .1);
-      }
+all-writable : (year quarter : ℕ) (sheet : List ℕ) (n k left : ℕ) → ((j : ℕ) → j < n → HourWritable year quarter (hourAt sheet j)) → k + left ≤ n →
+    AllWritable year quarter (hoursFrom sheet k left)
+unfolding hoursFrom
+all-writable year quarter sheet n k zero w h = tt
+all-writable year quarter sheet n k (suc left) w h = (w k (omega arith), all-writable year quarter sheet n (suc k) left w (omega arith))
 
-  -- what a sheet that holds is like
-  record Holds : Type 0 where
-    heading : headingHolds year quarter name ≡ true
-    rising : hoursRise (hoursInQuarter year quarter) 0 (hoursOf sheet) ≡ true
+module _ (year quarter : ℕ) (name sheet : List ℕ) (named : length name ≡ stackWidth) where
+  -- a sheet that can be written gives an honest report
+  module _ (w : Writable year quarter name sheet) where
+    writable-hours : AllWritable year quarter (hoursOf sheet)
+    unfolding hoursOf
+    writable-hours = all-writable year quarter sheet (hourCount sheet) 0 (hourCount sheet) (w .hours) (omega arith)
 
-  sheet-holds : sheetHolds year quarter name sheet ≡ true → Holds
-  unfolding sheetHolds
-  sheet-holds e = go (headingHolds year quarter name) refl (eqb (length sheet % 6) 0) (kindsHold sheet 0 (hourCount sheet)) e
-    where
-      go : (a : Bool) → headingHolds year quarter name ≡ a → (b c : Bool) →
-          elim a [ false ↦ false | true ↦ elim b [ false ↦ false | true ↦ elim c [ false ↦ false | true ↦ hoursRise (hoursInQuarter year quarter) 0 (hoursOf sheet) ] ] ] ≡ true → Holds
-      go false h b c w = never w
-      go true h false c w = never w
-      go true h true false w = never w
-      go true h true true w = record { heading = h; rising = w }
+    few : length (hoursOf sheet) ≤ 2208
+    few = omega (arith, hours-count sheet, w .held .hours)
 
-  -- what a sheet without refusal is like
-  record Taken : Type 0 where
-    holds : sheetHolds year quarter name sheet ≡ true
-    ranges : every readingsHold (hoursOf sheet) ≡ true
-    figures : every figuresFit (hoursOf sheet) ≡ true
+    pub report-honest : HonestlyRounded (report year quarter name (hoursOf sheet)) (sets (hoursOf sheet))
+    report-honest =
+        let g = w .shaped .heading in
+        let hs = hoursOf sheet in
+        let h = hours-back year quarter name g named hs writable-hours in
+        record {
+          report = own year quarter name g named hs writable-hours (w .shaped .rises) few;
+          clean = report-clean year quarter name g named hs writable-hours (w .shaped .rises) few;
+          behind = rw h (sets-behind hs);
+          totals = totals-back year quarter name g named hs writable-hours few ∙ ap quarterTotals (sym h);
+        }
 
-  taken : (room : ℕ) → refusalOf year quarter name sheet room ≡ 0 → Taken
-  unfolding refusalOf
-  taken room e = go (sheetHolds year quarter name sheet) refl (every readingsHold (hoursOf sheet)) refl (every figuresFit (hoursOf sheet)) refl e
-    where
-      go : (a : Bool) → sheetHolds year quarter name sheet ≡ a → (b : Bool) → every readingsHold (hoursOf sheet) ≡ b → (c : Bool) → every figuresFit (hoursOf sheet) ≡ c →
-          _≡_ {A = ℕ} (elim a [ false ↦ 31 | true ↦ elim b [ false ↦ 32 | true ↦ elim c [ false ↦ 33 | true ↦ elim (leb (reportBytes (hourCount sheet)) room) [ false ↦ 34 | true ↦ 0 ] ] ] ]) 0 → Taken
-      go false h b k c l w = absurd (omega arith)
-      go true h false k c l w = absurd (omega arith)
-      go true h true k false l w = absurd (omega arith)
-      go true h true k true l w = record { holds = h; ranges = k; figures = l }
+    pub report-accepted : checked (report year quarter name (hoursOf sheet)) ≡ Accepted (formed (hoursOf sheet))
+    report-accepted =
+        honest-checked (report year quarter name (hoursOf sheet)) (sets (hoursOf sheet)) report-honest
+        ∙ ap (λ (x : List Hour). Accepted (quarterTotals x)) (hours-back year quarter name (w .shaped .heading) named (hoursOf sheet) writable-hours)
 
-  all-right : (hs : List SheetHour) (from : ℕ) → hoursRise (hoursInQuarter year quarter) from hs ≡ true → every readingsHold hs ≡ true → every figuresFit hs ≡ true → AllRight year quarter hs
-  all-right [] from r a f = tt
-  all-right (h ∷ hs) from r a f =
-      let w = readings-within h (every-head readingsHold h hs a) in (
-        record { hour = rise-head (hoursInQuarter year quarter) from h hs r .1; time = w .0; readings = w .1; figures = figures-within (roundedFigures (h .readings)) (every-head figuresFit h hs f) },
-        all-right hs (suc (h .hour)) (rise-tail (hoursInQuarter year quarter) from h hs r) (every-tail readingsHold h hs a) (every-tail figuresFit h hs f),
-      )
-
-  hours-count : length (hoursOf sheet) ≡ hourCount sheet
-  unfolding hoursOf
-  hours-count = hours-length sheet 0 (hourCount sheet)
-
-  -- the totals that the report states
-  abbrev pub formed : Quarter
-  formed = quarterTotals (recordedHours (hoursOf sheet))
-
-  pub formed-hours : formed .hours ≡ length sheet / 6
-  unfolding quarterTotals quarterOf totalsOf hoursOf
-  formed-hours = recorded-length year quarter (hoursOf sheet) ∙ hours-length sheet 0 (hourCount sheet)
-
-  pub sheet-accepted : (room : ℕ) → length name ≡ 6 → refusalOf year quarter name sheet room ≡ 0 → checked (report year quarter name (hoursOf sheet)) ≡ Accepted formed
-  sheet-accepted room six e =
-      let t = taken room e in
-      let h = sheet-holds (t .holds) in
-      let g = heading-head six (h .heading) in
-      let c = rise-count (hoursInQuarter year quarter) 0 (hoursOf sheet) (h .rising) in
-      report-accepted year quarter name g (hoursOf sheet) (all-right (hoursOf sheet) 0 (h .rising) (t .ranges) (t .figures)) (h .rising) (omega (arith, c, hours-in-quarter year quarter (g .valid) .most))
+  pub formed-hours : formed (hoursOf sheet) .hours ≡ hourCount sheet
+  formed-hours = quarter-hours (recordedHours (hoursOf sheet)) ∙ recorded-length (hoursOf sheet) ∙ hours-count sheet
 
   -- Whatever the buffer: where the writer answers a length, the check accepts that many bytes of it, with the sheet's hours.
-  pub every-written : (buffer : List ℕ) (n : ℕ) → length name ≡ 6 → answered year quarter name sheet (length buffer) ≡ Length n →
-      (numbersOf (checked (take n (buffered year quarter name sheet buffer))) ≡ acceptance formed) × (formed .hours ≡ length sheet / 6)
+  pub every-written : (buffer : List ℕ) (n : ℕ) → answered year quarter name sheet (length buffer) ≡ Length n →
+      (numbersOf (checked (take n (buffered year quarter name sheet buffer))) ≡ acceptance (formed (hoursOf sheet))) ×
+      (formed (hoursOf sheet) .hours ≡ hourCount sheet)
   unfolding answered buffered
-  every-written buffer n six e = go (refusalOf year quarter name sheet (length buffer)) refl e
+  every-written buffer n e = go (refusalOf year quarter name sheet (length buffer)) refl e
     where
       go : (f : ℕ) → refusalOf year quarter name sheet (length buffer) ≡ f →
-          elim f [ zero ↦ Length (reportBytes (hourCount sheet)) | suc c ↦ Refused (suc c) ] ≡ Length n →
-          (numbersOf (checked (take n (buffered year quarter name sheet buffer))) ≡ acceptance formed) × (formed .hours ≡ length sheet / 6)
-      go zero z w =
-          let l : reportBytes (hourCount sheet) ≡ n = cc in
+          elim f [ zero ↦ Length (reportLength (shapeOf sheet)) | suc c ↦ Refused (suc c) ] ≡ Length n →
+          (numbersOf (checked (take n (buffered year quarter name sheet buffer))) ≡ acceptance (formed (hoursOf sheet))) ×
+          (formed (hoursOf sheet) .hours ≡ hourCount sheet)
+      go zero z v =
+          let l : reportLength (shapeOf sheet) ≡ n = cc in
           let file = report year quarter name (hoursOf sheet) in
-          let k : length file ≡ n = report-length year quarter name six (hoursOf sheet) ∙ ap reportBytes hours-count ∙ l in
-          let t : take n (buffered year quarter name sheet buffer) ≡ file = rw (z, buffered) (take-at file (drop (reportBytes (hourCount sheet)) buffer) n k) in
-          (ap numbersOf (ap checked t ∙ sheet-accepted (length buffer) six z), formed-hours)
-      go (suc f) z w = absurd (let y : _≡_ {A = ℕ} 0 1 = cc in omega arith)
+          let k : length file ≡ n = report-length year quarter name (hoursOf sheet) named (shapeOf sheet) (hours-count sheet) ∙ l in
+          let t : take n (buffered year quarter name sheet buffer) ≡ file = rw (z, buffered) (take-at file (drop (reportLength (shapeOf sheet)) buffer) n k) in
+          (ap numbersOf (ap checked t ∙ report-accepted (not-refused year quarter name sheet (length buffer) z .0)), formed-hours)
+      go (suc f) z v = absurd (let y : _≡_ {A = ℕ} 0 1 = cc in omega arith)

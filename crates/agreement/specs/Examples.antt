@@ -1,5 +1,5 @@
--- 01's worked hour and empty quarter: the bytes that the writer gives are those that the check accepts.
--- Assumes nothing.
+-- The paper's worked hour and empty quarter: the bytes that the writer gives are those that the check accepts.
+
 use mathlib.Core.Path.{_≡_, refl}
 use Rattle.writer.specs.Examples.{worked, empty}
 use Rattle.checker.specs.Examples.{workedHour, emptyQuarter}

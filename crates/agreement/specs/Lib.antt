@@ -1,8 +1,6 @@
 pub mod RecordLaws
 pub mod HourRecordLaws
-pub mod WalkLaws
-pub mod PlaceLaws
-pub mod TotalsFitLaws
-pub mod AcceptedLaws
+pub mod ReportLaws
+pub mod ReadBackLaws
 pub mod Agreement
 pub mod Examples

@@ -1,115 +1,98 @@
 -- A written record has no fault: its type, length, bytes and stack name are right, and each value is read back from its columns.
--- Assumes nothing.
 use Prim.Native.Nat.{ℕ, zero, suc, _+_, _-_, _≤_, _<_, _^_}
 use mathlib.Core.Path.{_≡_, refl, sym, ap, _∙_}
-use mathlib.Core.List.{List, [], _∷_, _++_}
-use mathlib.Core.Bool.{Bool, true, false, _&&_}
+use mathlib.Core.List.{List, [], _∷_}
+use mathlib.Core.Bool.{Bool, true, _&&_}
 use native.Mathlib.Omega.{arith}
 use native.Mathlib.Nat.{le-of-suc-le-suc, not-suc-le-zero, lt-of-le-of-lt}
-use lib.Dec.{eqb, leb, ltb}
-use lib.ListN.{length, getD, take, drop, replicate, length-replicate}
-use borrow.Author.Tests.{eq-eqb, le-leb, leb-true, ltb-true}
+use lib.Dec.{leb, ltb}
+use lib.ListN.{length, getD, take, replicate, length-replicate}
+use borrow.Author.Tests.{eq-eqb, leb-true, ltb-true}
 use Rattle.columns.specs.Bytes.{isPrintable, all, same}
-use Rattle.columns.specs.BytesLaws.{same-eq, all-cons}
+use Rattle.columns.specs.BytesLaws.{same-eq}
 use Rattle.columns.specs.Columns.{columns, put}
-use Rattle.columns.specs.ColumnsLaws.{put-all, put-length, columns-before, columns-back}
+use Rattle.columns.specs.ColumnsLaws.{put-length, columns-before, columns-back}
 use Rattle.columns.specs.Number.{fieldOf, digitsHeld, fewestColumns}
-use Rattle.columns.specs.Written.{digitsOf, written}
-use Rattle.columns.specs.WrittenLaws.{digits-length, digits-printable, written-length, written-printable, read-written}
+use Rattle.columns.specs.Written.{written}
+use Rattle.columns.specs.WrittenLaws.{digits-length, written-length, read-written}
 use Rattle.columns.specs.declared.Field.the-variants.{Number}
-use Rattle.layout.specs.Layout.{codeOf, lengthOf, dateColumn, valuesOf, Within}
+use Rattle.layout.specs.Layout.{codeOf, lengthOf, typeStart, typeWidth, typeDigits, stackStart, stackWidth, dateColumn, dateWidth, valuesOf, noValue, Within, within}
+use Rattle.layout.specs.LayoutLaws.{both, each, length-least, true-within}
 use Rattle.layout.specs.declared.Value.{Value}
 use Rattle.layout.specs.declared.RecordType.{RecordType}
-use Rattle.layout.specs.declared.RecordType.the-variants.{Facility, So2Concentration, NoxConcentration, Co2Concentration, VolumetricFlow, Operation, QuarterTotals, So2Mass, NoxRate, Co2Mass}
-use Rattle.reading.specs.LineFaults.{_orElse_, unless, typeIs, shapeFault, stackOf, stackFault, fieldFault, fieldIn, valuesFault}
+use Rattle.lines.specs.LineFaults.{_orElse_, unless, typeIs, shapeFault, stackOf, stackFault, commonFault, fieldFault, fieldIn, valuesFault}
 use Rattle.writer.specs.Written.{headed, valued}
 
--- a line with a type's length and code, a stack name, and printable bytes only
-pub record Heading (t : RecordType) (name line : List ℕ) : Type 0 where
+-- a line with a type's length and digits and a stack name
+pub record Framed (t : RecordType) (name line : List ℕ) : Type 0 where
   pub long : length line ≡ lengthOf t
-  pub code : columns 1 3 line ≡ digitsOf 3 (codeOf t)
-  pub stack : columns 4 6 line ≡ name
-  pub printable : all isPrintable line ≡ true
+  pub digits : columns typeStart typeWidth line ≡ typeDigits t
+  pub stack : stackOf line ≡ name
 
-pub length-low : (t : RecordType) → 14 ≤ lengthOf t
-length-low Facility = omega arith
-length-low So2Concentration = omega arith
-length-low NoxConcentration = omega arith
-length-low Co2Concentration = omega arith
-length-low VolumetricFlow = omega arith
-length-low Operation = omega arith
-length-low QuarterTotals = omega arith
-length-low So2Mass = omega arith
-length-low NoxRate = omega arith
-length-low Co2Mass = omega arith
+-- the column behind the stack name
+abbrev pub behindStack : ℕ
+behindStack = stackStart + stackWidth
 
-blanks : (n : ℕ) → all isPrintable (replicate n 32) ≡ true
-unfolding all
-blanks zero = refl
-blanks (suc n) = all-cons isPrintable 32 (replicate n 32) refl (blanks n)
-
-module _ (t : RecordType) (name : List ℕ) (six : length name ≡ 6) (shown : all isPrintable name ≡ true) where
-  -- bytes behind the stack name leave the heading as it is
-  pub heading-put : (start : ℕ) (bs line : List ℕ) → 10 ≤ start → start - 1 + length bs ≤ lengthOf t → all isPrintable bs ≡ true → Heading t name line → Heading t name (put start bs line)
-  heading-put start bs line s r p h =
+module _ (t : RecordType) (name : List ℕ) where
+  -- bytes behind the stack name leave it as it is
+  pub framed-put : (start : ℕ) (bs line : List ℕ) → behindStack ≤ start → start - 1 + length bs ≤ lengthOf t → Framed t name line →
+      Framed t name (put start bs line)
+  framed-put start bs line s r h =
       let b : start - 1 + length bs ≤ length line = rw (h .long) r in
       record {
         long = put-length start bs line b ∙ h .long;
-        code = columns-before start bs line b 1 3 (omega arith) ∙ h .code;
-        stack = columns-before start bs line b 4 6 (omega arith) ∙ h .stack;
-        printable = put-all isPrintable start bs line p (h .printable);
+        digits = columns-before start bs line b typeStart typeWidth (omega arith) ∙ h .digits;
+        stack = columns-before start bs line b stackStart stackWidth (omega arith) ∙ h .stack;
       }
 
-  pub heading-headed : Heading t name (headed t name)
+  pub framed-headed : length name ≡ stackWidth → Framed t name (headed t name)
   unfolding headed
-  heading-headed =
+  framed-headed named =
       let blank : List ℕ = replicate (lengthOf t) 32 in
-      let code = digitsOf 3 (codeOf t) in
       let l : length blank ≡ lengthOf t = length-replicate (lengthOf t) 32 in
-      let c : length code ≡ 3 = digits-length 3 (codeOf t) in
-      let a : 1 - 1 + length code ≤ length blank = omega (arith, length-low t) in
-      let m = put-length 1 code blank a in
-      let b : 4 - 1 + length name ≤ length (put 1 code blank) = omega (arith, length-low t) in
+      let c : length (typeDigits t) ≡ typeWidth = digits-length typeWidth (codeOf t) in
+      let a : typeStart - 1 + length (typeDigits t) ≤ length blank = omega (arith, length-least t) in
+      let m = put-length typeStart (typeDigits t) blank a in
+      let line = put typeStart (typeDigits t) blank in
+      let b : stackStart - 1 + length name ≤ length line = omega (arith, length-least t) in
       record {
-        long = put-length 4 name (put 1 code blank) b ∙ m ∙ l;
-        code = columns-before 4 name (put 1 code blank) b 1 3 (omega arith) ∙ columns-back 1 3 code blank c (omega (arith, length-low t));
-        stack = columns-back 4 6 name (put 1 code blank) six (omega (arith, length-low t));
-        printable = put-all isPrintable 4 name (put 1 code blank) shown (put-all isPrintable 1 code blank (digits-printable 3 (codeOf t)) (blanks (lengthOf t)));
+        long = put-length stackStart name line b ∙ m ∙ l;
+        digits =
+            columns-before stackStart name line b typeStart typeWidth (omega arith)
+            ∙ columns-back typeStart typeWidth (typeDigits t) blank c (omega (arith, length-least t));
+        stack = columns-back stackStart stackWidth name line named (omega (arith, length-least t));
       }
 
-  pub heading-type : (line : List ℕ) → Heading t name line → typeIs t line ≡ true
+  pub framed-type : (line : List ℕ) → Framed t name line → typeIs t line ≡ true
   unfolding typeIs columns
-  heading-type line h = same-eq (take 3 line) (digitsOf 3 (codeOf t)) .1 (h .code)
+  framed-type line h = same-eq (take typeWidth line) (typeDigits t) .1 (h .digits)
 
-  pub heading-shape : (line : List ℕ) → Heading t name line → shapeFault t line ≡ 0
+  -- and printable bytes only
+  pub framed-shape : (line : List ℕ) → Framed t name line → all isPrintable line ≡ true → shapeFault t line ≡ 0
   unfolding shapeFault
-  heading-shape line h = rw (heading-type line h, eq-eqb (length line) (lengthOf t) (h .long), h .printable)
+  framed-shape line h p = rw (framed-type line h, eq-eqb (length line) (lengthOf t) (h .long), p)
 
-  pub heading-stack : (facility line : List ℕ) → stackOf facility ≡ name → Heading t name line → stackFault facility line ≡ 0
-  unfolding stackFault
-  heading-stack facility line e h = rw (same-eq (stackOf line) (stackOf facility) .1 (h .stack ∙ sym e))
+  pub framed-common : (facility line : List ℕ) → stackOf facility ≡ name → Framed t name line → all isPrintable line ≡ true → commonFault facility t line ≡ 0
+  unfolding commonFault stackFault
+  framed-common facility line e h p = rw (framed-shape line h p, same-eq (stackOf line) (stackOf facility) .1 (h .stack ∙ sym e))
 
--- values from left to right, behind the column `from` and within the line
-pub record Fits (from long : ℕ) (v : Value) : Type 0 where
+-- values from left to right, behind so many columns and within the line
+pub record InColumns (from long : ℕ) (v : Value) : Type 0 where
   pub first : from ≤ v .start - 1
-  pub named : 10 ≤ v .start
+  pub named : behindStack ≤ v .start
   pub last : v .start - 1 + v .width ≤ long
   pub room : fewestColumns (v .decimals) ≤ v .width
   pub most : v .most < 10 ^ digitsHeld (v .decimals) (v .width)
 
 abbrev pub Ordered : ℕ → ℕ → List Value → Type 0
 Ordered from long [] = Unit {0}
-Ordered from long (v ∷ vs) = Fits from long v × Ordered (v .start - 1 + v .width) long vs
+Ordered from long (v ∷ vs) = InColumns from long v × Ordered (v .start - 1 + v .width) long vs
 
 abbrev orderedTest : ℕ → ℕ → List Value → Bool
 orderedTest from long [] = true
 orderedTest from long (v ∷ vs) =
-    leb from (v .start - 1) && leb 10 (v .start) && leb (v .start - 1 + v .width) long && leb (fewestColumns (v .decimals)) (v .width)
+    leb from (v .start - 1) && leb behindStack (v .start) && leb (v .start - 1 + v .width) long && leb (fewestColumns (v .decimals)) (v .width)
     && ltb (v .most) (10 ^ digitsHeld (v .decimals) (v .width)) && orderedTest (v .start - 1 + v .width) long vs
-
-both : (p q : Bool) → (p && q) ≡ true → (p ≡ true) × (q ≡ true)
-both true q e = (refl, e)
-both false q e = absurd (let y : _≡_ {A = ℕ} 0 1 = cc in omega arith)
 
 ordered-of : (from long : ℕ) (vs : List Value) → orderedTest from long vs ≡ true → Ordered from long vs
 ordered-of from long [] e = tt
@@ -123,34 +106,23 @@ ordered-of from long (v ∷ vs) e =
       ordered-of (v .start - 1 + v .width) long vs (a .1),
     )
 
--- where the values of a type may start: behind date and hour, or behind the stack name
-abbrev pub frontOf : RecordType → ℕ
-frontOf t = elim (dateColumn t) [ zero ↦ 9 | suc c ↦ c + 8 ]
+-- the columns in front of the values of a type: date and hour, or the stack name
+abbrev pub frontColumns : RecordType → ℕ
+frontColumns t = elim (dateColumn t) [ zero ↦ behindStack - 1 | suc c ↦ c + dateWidth ]
 
-pub ordered : (t : RecordType) → Ordered (frontOf t) (lengthOf t) (valuesOf t)
-ordered t = ordered-of (frontOf t) (lengthOf t) (valuesOf t) (table t)
-  where
-    table : (t : RecordType) → orderedTest (frontOf t) (lengthOf t) (valuesOf t) ≡ true
-    table Facility = refl
-    table So2Concentration = refl
-    table NoxConcentration = refl
-    table Co2Concentration = refl
-    table VolumetricFlow = refl
-    table Operation = refl
-    table QuarterTotals = refl
-    table So2Mass = refl
-    table NoxRate = refl
-    table Co2Mass = refl
+pub ordered : (t : RecordType) → Ordered (frontColumns t) (lengthOf t) (valuesOf t)
+ordered t = ordered-of (frontColumns t) (lengthOf t) (valuesOf t) (each (λ t. orderedTest (frontColumns t) (lengthOf t) (valuesOf t)) refl t)
 
 -- each number lies in its value's range
-abbrev pub AllWithin : List Value → List ℕ → Type 0
-AllWithin [] [] = Unit {0}
-AllWithin [] (x ∷ xs) = ⊥
-AllWithin (v ∷ vs) [] = ⊥
-AllWithin (v ∷ vs) (x ∷ xs) = Within v x × AllWithin vs xs
+abbrev pub ValuesWithin : List Value → List ℕ → Type 0
+ValuesWithin [] [] = Unit {0}
+ValuesWithin [] (x ∷ xs) = ⊥
+ValuesWithin (v ∷ vs) [] = ⊥
+ValuesWithin (v ∷ vs) (x ∷ xs) = Within v x × ValuesWithin vs xs
 
 -- columns in front of the values stay as they were
-pub valued-before : (from long : ℕ) (vs : List Value) (xs line : List ℕ) (start width : ℕ) → Ordered from long vs → length line ≡ long → start - 1 + width ≤ from →
+pub valued-before : (from long : ℕ) (vs : List Value) (xs line : List ℕ) (start width : ℕ) → Ordered from long vs → length line ≡ long →
+    start - 1 + width ≤ from →
     columns start width (valued vs xs line) ≡ columns start width line
 unfolding valued
 valued-before from long [] xs line start width o l b = refl
@@ -159,11 +131,13 @@ valued-before from long (v ∷ vs) (x ∷ xs) line start width o l b =
     let w = written-length (v .width) (v .decimals) x (o .0 .room) in
     let bs = written (v .width) (v .decimals) x in
     let r : v .start - 1 + length bs ≤ length line = omega (arith, o .0 .last) in
-    valued-before (v .start - 1 + v .width) long vs xs (put (v .start) bs line) start width (o .1) (put-length (v .start) bs line r ∙ l) (omega (arith, o .0 .first))
+    valued-before (v .start - 1 + v .width) long vs xs (put (v .start) bs line) start width (o .1) (put-length (v .start) bs line r ∙ l)
+    (omega (arith, o .0 .first))
     ∙ columns-before (v .start) bs line r start width (omega (arith, o .0 .first))
 
 -- each number is read back
-pub valued-field : (from long : ℕ) (vs : List Value) (xs line : List ℕ) (d : Value) (i : ℕ) → Ordered from long vs → length line ≡ long → AllWithin vs xs → i < length vs →
+pub valued-field : (from long : ℕ) (vs : List Value) (xs line : List ℕ) (d : Value) (i : ℕ) → Ordered from long vs → length line ≡ long →
+    ValuesWithin vs xs → i < length vs →
     fieldIn (getD vs i d) (valued vs xs line) ≡ Number (getD xs i 0)
 unfolding valued
 valued-field from long [] xs line d i o l a h = absurd (not-suc-le-zero h)
@@ -174,7 +148,8 @@ valued-field from long (v ∷ vs) (x ∷ xs) line d zero o l a h =
     let r : v .start - 1 + length bs ≤ length line = omega (arith, o .0 .last) in
     let z : v .start - 1 + v .width ≤ length line = omega (arith, o .0 .last) in
     ap (fieldOf (v .decimals))
-    (valued-before (v .start - 1 + v .width) long vs xs (put (v .start) bs line) (v .start) (v .width) (o .1) (put-length (v .start) bs line r ∙ l) (omega arith)
+    (valued-before (v .start - 1 + v .width) long vs xs (put (v .start) bs line) (v .start) (v .width) (o .1) (put-length (v .start) bs line r ∙ l)
+    (omega arith)
     ∙ columns-back (v .start) (v .width) bs line w z)
     ∙ read-written (v .width) (v .decimals) x (o .0 .room) (lt-of-le-of-lt (a .0 .most) (o .0 .most))
 valued-field from long (v ∷ vs) (x ∷ xs) line d (suc i) o l a h =
@@ -184,27 +159,32 @@ valued-field from long (v ∷ vs) (x ∷ xs) line d (suc i) o l a h =
     valued-field (v .start - 1 + v .width) long vs xs (put (v .start) bs line) d i (o .1) (put-length (v .start) bs line r ∙ l) (a .1) (le-of-suc-le-suc h)
 
 -- fields that hold numbers in their ranges have no fault
-fields-right : (vs : List Value) (xs line : List ℕ) (d : Value) → AllWithin vs xs → ((i : ℕ) → i < length vs → fieldIn (getD vs i d) line ≡ Number (getD xs i 0)) → valuesFault vs line ≡ 0
+fields-right : (vs : List Value) (xs line : List ℕ) (d : Value) → ValuesWithin vs xs →
+    ((i : ℕ) → i < length vs → fieldIn (getD vs i d) line ≡ Number (getD xs i 0)) → valuesFault vs line ≡ 0
 unfolding valuesFault fieldFault
 fields-right [] xs line d a f = refl
 fields-right (v ∷ vs) [] line d a f = absurd a
 fields-right (v ∷ vs) (x ∷ xs) line d a f =
-    rw (f 0 (omega arith), le-leb (v .least) x (a .0 .least), le-leb x (v .most) (a .0 .most))
-    (fields-right vs xs line d (a .1) (λ i h. f (suc i) (omega arith)))
+    rw (f 0 (omega arith), true-within v x (a .0)) (fields-right vs xs line d (a .1) (λ i h. f (suc i) (omega arith)))
 
-pub valued-right : (t : RecordType) (xs line : List ℕ) → length line ≡ lengthOf t → AllWithin (valuesOf t) xs → valuesFault (valuesOf t) (valued (valuesOf t) xs line) ≡ 0
-valued-right t xs line l a =
-    fields-right (valuesOf t) xs (valued (valuesOf t) xs line) (record { start = 0; width = 0; decimals = 0; least = 0; most = 0 }) a
-    (λ i h. valued-field (frontOf t) (lengthOf t) (valuesOf t) xs line (record { start = 0; width = 0; decimals = 0; least = 0; most = 0 }) i (ordered t) l a h)
+module _ (t : RecordType) (xs line : List ℕ) (long : length line ≡ lengthOf t) (a : ValuesWithin (valuesOf t) xs) where
+  pub value-back : (i : ℕ) → i < length (valuesOf t) → fieldIn (getD (valuesOf t) i noValue) (valued (valuesOf t) xs line) ≡ Number (getD xs i 0)
+  value-back i h = valued-field (frontColumns t) (lengthOf t) (valuesOf t) xs line noValue i (ordered t) long a h
 
--- values leave the heading as it is
-pub heading-valued : (t : RecordType) (name : List ℕ) → length name ≡ 6 → all isPrintable name ≡ true → (from : ℕ) (vs : List Value) (xs line : List ℕ) → Ordered from (lengthOf t) vs →
-    Heading t name line → Heading t name (valued vs xs line)
+  pub valued-right : valuesFault (valuesOf t) (valued (valuesOf t) xs line) ≡ 0
+  valued-right = fields-right (valuesOf t) xs (valued (valuesOf t) xs line) noValue a value-back
+
+-- values leave the frame as it is
+framed-values : (t : RecordType) (name : List ℕ) (from : ℕ) (vs : List Value) (xs line : List ℕ) → Ordered from (lengthOf t) vs → Framed t name line →
+    Framed t name (valued vs xs line)
 unfolding valued
-heading-valued t name six shown from [] xs line o h = h
-heading-valued t name six shown from (v ∷ vs) [] line o h = h
-heading-valued t name six shown from (v ∷ vs) (x ∷ xs) line o h =
+framed-values t name from [] xs line o h = h
+framed-values t name from (v ∷ vs) [] line o h = h
+framed-values t name from (v ∷ vs) (x ∷ xs) line o h =
     let w = written-length (v .width) (v .decimals) x (o .0 .room) in
     let bs = written (v .width) (v .decimals) x in
-    heading-valued t name six shown (v .start - 1 + v .width) vs xs (put (v .start) bs line) (o .1)
-    (heading-put t name six shown (v .start) bs line (o .0 .named) (omega (arith, o .0 .last)) (written-printable (v .width) (v .decimals) x) h)
+    framed-values t name (v .start - 1 + v .width) vs xs (put (v .start) bs line) (o .1)
+    (framed-put t name (v .start) bs line (o .0 .named) (omega (arith, o .0 .last)) h)
+
+pub framed-valued : (t : RecordType) (name xs line : List ℕ) → Framed t name line → Framed t name (valued (valuesOf t) xs line)
+framed-valued t name xs line h = framed-values t name (frontColumns t) (valuesOf t) xs line (ordered t) h

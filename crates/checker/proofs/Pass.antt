@@ -1,19 +1,18 @@
 -- Laws of the hour pass: what is left to judge from an hour, or from a figure, on.
--- Assumes nothing.
 use Prim.Native.Nat.{ℕ, zero, suc, _+_, _-_, _*_, _≤_, _<_}
 use mathlib.Core.Path.{_≡_, refl, sym, ap, _∙_}
 use mathlib.Core.List.{List, [], _∷_}
-use mathlib.Core.Bool.{Bool, true, false, not}
+use mathlib.Core.Bool.{Bool, true, false}
 use native.Mathlib.Omega.{arith}
 use native.Mathlib.Numerals.{add-one}
 use lib.ListN.{drop}
 use borrow.Author.Tests.{eq-eqb, ne-eqb}
-use Rattle.layout.specs.Layout.{lineOf, shape}
+use Rattle.layout.specs.Layout.{lineOf, countOf}
 use Rattle.formulas.specs.Formulas.{passesTest}
-use Rattle.totals.specs.Totals.{noTotals, withHour, runningTotals, totalsOf, quarterOf, quarterTotals}
-use Rattle.totals.specs.TotalLaws.{running-totals}
+use Rattle.totals.specs.Totals.{Room, noTotals, withHour, runningTotals, totalsOf, quarterOf, quarterTotals}
+use Rattle.totals.specs.TotalLaws.{running-totals, running-next, running-end, quarter-formed}
 use Rattle.layout.specs.declared.RecordType.the-variants.{QuarterTotals}
-use Rattle.formulas.specs.declared.hour.Figures.{Figures}
+use Rattle.layout.specs.declared.Shape.{Shape}
 use Rattle.formulas.specs.declared.hour.Hour.{Hour}
 use Rattle.formulas.specs.declared.hour.Quantity.{Quantity}
 use Rattle.formulas.specs.declared.hour.Quantity.the-variants.{Heat, So2, Nox, Co2}
@@ -26,23 +25,27 @@ use Rattle.checker.specs.Checked.{refusedAt, quantities, quantityAt, num
 use Rattle.checker.specs.declared.Answer.{Answer}
 
 -- the lines of the figures and of the totals, where the layout has them
-pub figure-line : (file : List ℕ) (n : ℕ) → Standing file (shape n) → (q : Quantity) (k : ℕ) → k < n → lineOf (shape n) (typeFor q) k ≡ lineFor file q k
-figure-line file n s Heat k h = sym (ap (λ (l : Line). l .number) (record-at file (shape n) s (typeFor Heat) k h))
-figure-line file n s So2 k h = sym (ap (λ (l : Line). l .number) (record-at file (shape n) s (typeFor So2) k h))
-figure-line file n s Nox k h = sym (ap (λ (l : Line). l .number) (record-at file (shape n) s (typeFor Nox) k h))
-figure-line file n s Co2 k h = sym (ap (λ (l : Line). l .number) (record-at file (shape n) s (typeFor Co2) k h))
+module _ (file : List ℕ) (s : Shape) (d : Standing file s) where
+  pub figure-line : (q : Quantity) (k : ℕ) → k < s .hours → lineOf s (typeFor q) k ≡ lineFor file q k
+  figure-line q k h = sym (ap (λ (l : Line). l .number) (record-at file s d (typeFor q) k (hourly q h)))
+    where
+      hourly : (q : Quantity) → k < s .hours → k < countOf s (typeFor q)
+      hourly Heat h = h
+      hourly So2 h = h
+      hourly Nox h = h
+      hourly Co2 h = h
 
-pub totals-line : (file : List ℕ) (n : ℕ) → Standing file (shape n) → lineOf (shape n) QuarterTotals 0 ≡ recordAt file QuarterTotals 0 .number
-totals-line file n s = sym (ap (λ (l : Line). l .number) (record-at file (shape n) s QuarterTotals 0 (omega arith)))
+  pub totals-line : lineOf s QuarterTotals 0 ≡ recordAt file QuarterTotals 0 .number
+  totals-line = sym (ap (λ (l : Line). l .number) (record-at file s d QuarterTotals 0 (omega arith)))
 
-module _ (file : List ℕ) (n : ℕ) where
+module _ (file : List ℕ) (s : Shape) where
   -- what follows the hours
   unfoldable pub ending : Answer
   ending = comparedTotals (recordAt file QuarterTotals 0 .number) (quarterTotals (hoursOf file)) (totalsIn file)
 
   -- what is left from hour k on
   abbrev pub hoursLeft : ℕ → List Hour
-  hoursLeft k = hoursFrom file k (n - k)
+  hoursLeft k = hoursFrom file k (s .hours - k)
 
   unfoldable pub left : ℕ → Answer
   left k = judgedHours file k (hoursLeft k) ending
@@ -51,21 +54,21 @@ module _ (file : List ℕ) (n : ℕ) where
   unfoldable pub figuresLeft : ℕ → Hour → ℕ → Answer
   figuresLeft k h j = judgedFigures (drop j quantities) file k h (left (k + 1))
 
-  pub left-first : Standing file (shape n) → left 0 ≡ judged file
+  pub left-first : Standing file s → left 0 ≡ judged file
   unfolding left ending judged hoursOf
-  left-first s = let e : n - 0 ≡ hourCount file = omega (arith, hours-standing file (shape n) s) in rw e
+  left-first d = let e : s .hours - 0 ≡ hourCount file = omega (arith, hours-standing file s d) in rw e
 
-  hours-next : (k : ℕ) → k < n → hoursLeft k ≡ hourAt file k ∷ hoursLeft (k + 1)
+  hours-next : (k : ℕ) → k < s .hours → hoursLeft k ≡ hourAt file k ∷ hoursLeft (k + 1)
   unfolding hoursFrom
-  hours-next k h = let e : n - k ≡ suc (n - (k + 1)) = omega arith in rw (e, add-one k)
+  hours-next k h = let e : s .hours - k ≡ suc (s .hours - (k + 1)) = omega arith in rw (e, add-one k)
 
-  pub left-hour : (k : ℕ) → k < n → figuresLeft k (hourAt file k) 0 ≡ left k
+  pub left-hour : (k : ℕ) → k < s .hours → figuresLeft k (hourAt file k) 0 ≡ left k
   unfolding left figuresLeft judgedHours
   left-hour k h = rw (hours-next k h, add-one k)
 
-  pub left-end : left n ≡ ending
+  pub left-end : left (s .hours) ≡ ending
   unfolding left hoursFrom judgedHours
-  left-end = let e : n - n ≡ 0 = omega arith in rw e
+  left-end = let e : s .hours - s .hours ≡ 0 = omega arith in rw e
 
   drop-quantity : (j : ℕ) → j < 4 → drop j quantities ≡ quantityAt j ∷ drop (j + 1) quantities
   drop-quantity zero h = refl
@@ -95,33 +98,45 @@ module _ (file : List ℕ) (n : ℕ) where
     figures-done = refl
 
   -- the running totals come to the totals of all hours
-  pub totals-first : Standing file (shape n) → runningTotals noTotals (hoursLeft 0) ≡ totalsOf (hoursOf file)
+  pub totals-first : Standing file s → runningTotals noTotals (hoursLeft 0) ≡ totalsOf (hoursOf file)
   unfolding hoursOf
-  totals-first s = let e : n - 0 ≡ hourCount file = omega (arith, hours-standing file (shape n) s) in rw e (running-totals (hoursFrom file 0 (hourCount file)))
+  totals-first d =
+      let e : s .hours - 0 ≡ hourCount file = omega (arith, hours-standing file s d) in
+      rw e (running-totals (hoursFrom file 0 (hourCount file)))
 
-  pub totals-next : (t : Totals) (k : ℕ) → k < n → runningTotals (withHour t (hourAt file k .figures) (hourAt file k .time)) (hoursLeft (k + 1)) ≡ runningTotals t (hoursLeft k)
-  unfolding runningTotals
-  totals-next t k h = rw (hours-next k h)
+  pub totals-next : (t : Totals) (k : ℕ) → k < s .hours →
+      runningTotals (withHour t (hourAt file k .figures) (hourAt file k .time)) (hoursLeft (k + 1)) ≡ runningTotals t (hoursLeft k)
+  totals-next t k h = rw (hours-next k h) (sym (running-next t (hourAt file k) (hoursLeft (k + 1))))
 
-  pub totals-end : (t : Totals) → runningTotals t (hoursLeft n) ≡ t
-  unfolding runningTotals hoursFrom
-  totals-end t = let e : n - n ≡ 0 = omega arith in rw e
+  pub totals-end : (t : Totals) → runningTotals t (hoursLeft (s .hours)) ≡ t
+  unfolding hoursFrom
+  totals-end t = let e : s .hours - s .hours ≡ 0 = omega arith in rw e (running-end t)
 
-  pub ending-is : Standing file (shape n) → (t : Totals) → t ≡ totalsOf (hoursOf file) → comparedTotals (lineOf (shape n) QuarterTotals 0) (quarterOf t) (totalsIn file) ≡ ending
-  unfolding ending quarterTotals
-  ending-is s t e = rw (e, totals-line file n s)
+  pub ending-is : Standing file s → (t : Totals) → t ≡ totalsOf (hoursOf file) →
+      comparedTotals (lineOf s QuarterTotals 0) (quarterOf t) (totalsIn file) ≡ ending
+  unfolding ending
+  ending-is d t e = rw (quarter-formed t (hoursOf file) e, totals-line file s d)
 
-pub grown-hours : (t : Totals) (f : Figures) (time k : ℕ) → t .hours ≡ k → withHour t f time .hours ≡ k + 1
-unfolding withHour
-grown-hours t f time k e = ap (λ (n : ℕ). n + 1) e
+-- the hour pass stands at hour k, with these totals
+pub record HourPass (file : List ℕ) (s : Shape) (totals : Totals) (k : ℕ) : Type 0 where
+  pub few : k ≤ s .hours
+  pub room : Room totals
+  pub count : totals .hours ≡ k
+  pub sums : runningTotals totals (hoursLeft file s k) ≡ totalsOf (hoursOf file)
+  pub rest : left file s k ≡ judged file
 
-pub not-true : (b : Bool) → not b ≡ true → b ≡ false
-not-true true e = sym e
-not-true false e = refl
+-- it has come to the end
+pub pass-end : (file : List ℕ) (s : Shape) (t : Totals) (k : ℕ) → Standing file s → HourPass file s t k → k ≡ s .hours →
+    comparedTotals (lineOf s QuarterTotals 0) (quarterOf t) (totalsIn file) ≡ judged file
+pass-end file s t k d p e =
+    let sums = rw e at (p .sums) in
+    let rest = rw e at (p .rest) in
+    ending-is file s d t (sym (totals-end file s t) ∙ sums) ∙ sym (left-end file s) ∙ rest
 
-pub not-false : (b : Bool) → not b ≡ false → b ≡ true
-not-false true e = refl
-not-false false e = sym e
+-- the figures of hour k are passed up to figure j
+pub record FigurePass (file : List ℕ) (s : Shape) (k : ℕ) (hour : Hour) (j : ℕ) : Type 0 where
+  pub few : j ≤ 4
+  pub rest : figuresLeft file s k hour j ≡ judged file
 
 -- the totals in the order of their columns
 module _ (line : ℕ) (f s : Quarter) where

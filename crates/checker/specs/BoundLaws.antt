@@ -1,5 +1,4 @@
 -- Whichever list lies behind a quantity's figures, its exact amount lies near the total formed from the figures.
--- Assumes nothing.
 use Prim.Native.Nat.{ℕ, _+_, _*_, _≤_, _<_}
 use mathlib.Core.Path.{_≡_, refl, sym, ap, ap₂, _∙_}
 use mathlib.Core.List.{List, [], _∷_}
@@ -12,30 +11,27 @@ use Rattle.exact.specs.Rounding.{Records, recorded, half, halves, halfUp}
 use Rattle.exact.specs.RoundingLaws.{records-rounded}
 use Rattle.exact.specs.Sums.{totalOf, Rate, amount, recordedAmount, hundredths}
 use Rattle.exact.specs.SumLaws.{total-near, mean-near}
-use Rattle.formulas.specs.Hour.{tenth, thousandth, unitOf, figureOf, HourWithin, Entry}
+use Rattle.formulas.specs.Hour.{tenth, thousandth, unitOf, figureOf, HourWithin, HoursWithin, Entry}
 use Rattle.formulas.specs.Formulas.{valueOf, LiesBehind}
-use Rattle.totals.specs.Totals.{totalsOf, meanOf, quarterOf, quarterTotals}
+use Rattle.totals.specs.Totals.{quarterTotals}
+use Rattle.totals.specs.TotalLaws.{quarter-so2, quarter-co2, quarter-heat, quarter-nox}
 use Rattle.formulas.specs.declared.hour.Hour.{Hour}
 use Rattle.formulas.specs.declared.hour.Quantity.{Quantity}
 use Rattle.formulas.specs.declared.hour.Quantity.the-variants.{Heat, So2, Nox, Co2}
 use Rattle.checker.specs.Promise.{LieBehind, exactShare, exactSum, exactAmount, reported, allowed}
-
-abbrev pub AllWithin : List Hour → Type 0
-AllWithin [] = Unit {0}
-AllWithin (h ∷ hs) = HourWithin h × AllWithin hs
 
 module _ (q : Quantity) where
   rate : (h : Hour) (e : Entry q) → HourWithin h → LiesBehind q h e → Rate (unitOf q)
   rate h e w b = record { value = valueOf q (h .readings) e; figure = figureOf q (h .figures); time = h .time; records = b .gives; short = w .time .most }
 
   -- the rates of a list behind the figures
-  rates : (hs : List Hour) (es : List (Entry q)) → AllWithin hs → LieBehind q hs es → List (Rate (unitOf q))
+  rates : (hs : List Hour) (es : List (Entry q)) → HoursWithin hs → LieBehind q hs es → List (Rate (unitOf q))
   rates [] [] w b = []
   rates [] (e ∷ es) w b = []
   rates (h ∷ hs) [] w b = []
   rates (h ∷ hs) (e ∷ es) w b = rate h e (w .0) (b .0) ∷ rates hs es (w .1) (b .1)
 
-  rates-length : (hs : List Hour) (es : List (Entry q)) (w : AllWithin hs) (b : LieBehind q hs es) → length (rates hs es w b) ≡ length hs
+  rates-length : (hs : List Hour) (es : List (Entry q)) (w : HoursWithin hs) (b : LieBehind q hs es) → length (rates hs es w b) ≡ length hs
   unfolding rates
   rates-length [] [] w b = refl
   rates-length [] (e ∷ es) w b = absurd b
@@ -43,7 +39,7 @@ module _ (q : Quantity) where
   rates-length (h ∷ hs) (e ∷ es) w b = let l = rates-length hs es (w .1) (b .1) in omega arith
 
   rates-total : (m : Rate (unitOf q) → ℕ) (g : Hour → ℕ) → ((h : Hour) (e : Entry q) (w : HourWithin h) (b : LiesBehind q h e) → m (rate h e w b) ≡ g h) →
-      (hs : List Hour) (es : List (Entry q)) (w : AllWithin hs) (b : LieBehind q hs es) → totalOf m (rates hs es w b) ≡ totalOf g hs
+      (hs : List Hour) (es : List (Entry q)) (w : HoursWithin hs) (b : LieBehind q hs es) → totalOf m (rates hs es w b) ≡ totalOf g hs
   unfolding rates totalOf
   rates-total m g same [] [] w b = refl
   rates-total m g same [] (e ∷ es) w b = absurd b
@@ -51,7 +47,7 @@ module _ (q : Quantity) where
   rates-total m g same (h ∷ hs) (e ∷ es) w b = ap₂ _+_ (same h e (w .0) (b .0)) (rates-total m g same hs es (w .1) (b .1))
 
   rates-sum : (f : Rate (unitOf q) → Fraction) → ((h : Hour) (e : Entry q) (w : HourWithin h) (b : LiesBehind q h e) → f (rate h e w b) ≡ exactShare q h e) →
-      (hs : List Hour) (es : List (Entry q)) (w : AllWithin hs) (b : LieBehind q hs es) → sumOf f (rates hs es w b) ≡ exactSum q hs es
+      (hs : List Hour) (es : List (Entry q)) (w : HoursWithin hs) (b : LieBehind q hs es) → sumOf f (rates hs es w b) ≡ exactSum q hs es
   unfolding rates sumOf exactSum
   rates-sum f same [] [] w b = refl
   rates-sum f same [] (e ∷ es) w b = absurd b
@@ -61,7 +57,7 @@ module _ (q : Quantity) where
   -- rate × time: a total formed from the figures, over s and rounded once to tenths
   timed-bound :
       ((h : Hour) (e : Entry q) (w : HourWithin h) (b : LiesBehind q h e) → amount (rate h e w b) ≡ exactShare q h e) →
-      (s : ℕ) (hs : List Hour) (es : List (Entry q)) → AllWithin hs → LieBehind q hs es →
+      (s : ℕ) (hs : List Hour) (es : List (Entry q)) → HoursWithin hs → LieBehind q hs es →
       Near (exactSum q hs es ÷ whole s)
       (recorded tenth (halfUp tenth (hundredths (unitOf q) (totalOf (λ h. figureOf q (h .figures) * h .time) hs) ÷ whole s)))
       ((halves (unitOf q) (length hs) ÷ whole s) ⊕ half tenth)
@@ -70,7 +66,7 @@ module _ (q : Quantity) where
       rw (rates-sum amount same hs es w b, rates-total recordedAmount (λ h. figureOf q (h .figures) * h .time) (λ h e x y. refl) hs es w b, rates-length hs es w b)
       at (total-near (unitOf q) tenth s (rates hs es w b) _ (records-rounded tenth (hundredths (unitOf q) (totalOf recordedAmount (rates hs es w b)) ÷ whole s)))
 
-mean-bound : (hs : List Hour) (es : List (Entry Nox)) → AllWithin hs → LieBehind Nox hs es →
+mean-bound : (hs : List Hour) (es : List (Entry Nox)) → HoursWithin hs → LieBehind Nox hs es →
     Near (exactSum Nox hs es ÷ whole (length hs)) (recorded thousandth (halfUp thousandth (recorded thousandth (totalOf (λ h. h .figures .nox) hs) ÷ whole (length hs)))) (plain thousandth)
 unfolding rate
 mean-bound hs es w b =
@@ -86,10 +82,10 @@ plain-share : (n : ℕ) → ((halves tenth n ÷ whole 1) ⊕ half tenth) ≤ᶠ 
 unfolding over
 plain-share n = omega arith
 
-pub amount-bound : (q : Quantity) (hs : List Hour) (es : List (Entry q)) → AllWithin hs → LieBehind q hs es →
+pub amount-bound : (q : Quantity) (hs : List Hour) (es : List (Entry q)) → HoursWithin hs → LieBehind q hs es →
     Near (exactAmount q hs es) (reported q (quarterTotals hs)) (allowed q (length hs))
-unfolding quarterTotals quarterOf totalsOf meanOf rate
-amount-bound Heat hs es w b = near-weaken (timed-bound Heat (λ h e x y. refl) 1 hs es w b) (plain-share (length hs))
-amount-bound So2 hs es w b = near-weaken (timed-bound So2 (λ h e x y. refl) 2000 hs es w b) (ton-share (length hs))
-amount-bound Nox hs es w b = mean-bound hs es w b
-amount-bound Co2 hs es w b = near-weaken (timed-bound Co2 (λ h e x y. refl) 1 hs es w b) (plain-share (length hs))
+unfolding rate
+amount-bound Heat hs es w b = rw (quarter-heat hs) (near-weaken (timed-bound Heat (λ h e x y. refl) 1 hs es w b) (plain-share (length hs)))
+amount-bound So2 hs es w b = rw (quarter-so2 hs) (near-weaken (timed-bound So2 (λ h e x y. refl) 2000 hs es w b) (ton-share (length hs)))
+amount-bound Nox hs es w b = rw (quarter-nox hs) (mean-bound hs es w b)
+amount-bound Co2 hs es w b = rw (quarter-co2 hs) (near-weaken (timed-bound Co2 (λ h e x y. refl) 1 hs es w b) (plain-share (length hs)))

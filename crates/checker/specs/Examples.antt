@@ -1,6 +1,7 @@
--- 01's worked hour and empty quarter as files, and what the check answers to them: facts about the definitions.
--- Assumes nothing.
+-- The paper's worked hour and empty quarter as files, and what the check answers to them: facts about the definitions.
 use mathlib.Core.Path.{_≡_, refl}
+use mathlib.Core.Bool.{Bool, true, _&&_}
+use lib.ListN.{take, drop}
 use mathlib.Core.List.{List, [], _∷_, _++_}
 use Prim.Native.Nat.{ℕ}
 use Rattle.exact.specs.Fraction.{over}
@@ -11,15 +12,15 @@ use Rattle.columns.specs.Columns.{columns, put}
 use Rattle.columns.specs.Number.{digitsFrom, wholeOf, decimalsBehind, fixedOf, fieldOf, numberOf}
 use Rattle.columns.specs.Written.{digitsOf}
 use Rattle.calendar.specs.Calendar.{leapYear, daysInMonth, inQuarter, daysBefore, hourOfQuarter, quarterHour}
-use Rattle.layout.specs.Layout.{lengthOf}
+use Rattle.layout.specs.Layout.{lengthOf, within}
 use Rattle.stamp.specs.Stamp.{numberHour, fieldHour, stampHour}
 use Rattle.formulas.specs.Formulas.{passesTest}
 use Rattle.totals.specs.Totals.{totalsOf, meanOf, quarterOf, quarterTotals}
-use Rattle.reading.specs.Lines.{onto, lines, last}
-use Rattle.reading.specs.LineFaults.{typeIs, shapeFault, stackFault, fieldFault, valuesFault, numberWithin, yearOn, quarterOn, facilityFault, risingFault, hourOn, hourFault, dateFault, dueFault}
-use Rattle.reading.specs.Reading.{runOf, runsOf, walkDue, walkLater, hourAfter, walkHours, walk, readOf}
+use Rattle.lines.specs.Lines.{onto, lines, last}
+use Rattle.lines.specs.LineFaults.{typeIs, shapeFault, stackFault, commonFault, fieldFault, valuesFault, digitsIn, facilityFault, facilityLine, risingFault, hourFault, hourNumber, hourLine, dateFault, dueFault}
+use Rattle.reading.specs.Reading.{runOf, runsOf, walkDue, walkLater, walkHours, walk, readOf}
 use Rattle.reading.specs.Recorded.{linesWith, recordsOf, valueOn, hourAt, hoursFrom, hoursOf, totalsIn}
-use Rattle.checker.specs.Checked.{numbersOf, judgedFigures, judgedHours, comparedTotals, judged, afterReading, checked}
+use Rattle.checker.specs.Checked.{refusal, numbersOf, judgedFigures, judgedHours, comparedTotals, judged, afterReading, checked}
 
 -- one hour at 2005 quarter 3, hour 0, time 0.50, SO2 250.0, NOx 200.0, CO2 12.0, flow 20,000,000, Fc 1,800.0
 unfoldable pub workedHour : List ℕ
@@ -54,14 +55,61 @@ emptyQuarter =
     (51 ∷ 48 ∷ 49 ∷ 83 ∷ 84 ∷ 65 ∷ 67 ∷ 75 ∷ 49 ∷ 32 ∷ 32 ∷ 32 ∷ 32 ∷ 32 ∷ 32 ∷ 32 ∷ 32 ∷ 48 ∷ 46 ∷ 48 ∷ 32 ∷ 32 ∷ 32 ∷ 32 ∷ 32 ∷ 32 ∷ 32 ∷ 32 ∷ 48 ∷ 46 ∷ 48 ∷ 32 ∷ 32 ∷ 32 ∷ 32 ∷ 32 ∷ 32 ∷ 32 ∷ 32 ∷ 48 ∷ 46 ∷ 48 ∷ 32 ∷ 48 ∷ 46 ∷ 48 ∷ 48 ∷ 48 ∷ 10 ∷ [])
 
 pub worked-hour : numbersOf (checked workedHour) ≡ 1 ∷ 2 ∷ 684 ∷ 6667 ∷ 358 ∷ []
-unfolding workedHour over meets totalOf all same columns digitsFrom wholeOf decimalsBehind fixedOf fieldOf numberOf digitsOf leapYear daysInMonth inQuarter daysBefore hourOfQuarter quarterHour numberHour fieldHour stampHour passesTest totalsOf meanOf quarterOf quarterTotals onto lines last typeIs shapeFault stackFault fieldFault valuesFault numberWithin yearOn quarterOn facilityFault risingFault hourOn hourFault dateFault dueFault runOf runsOf walkDue walkLater hourAfter walkHours walk readOf linesWith recordsOf valueOn hourAt hoursFrom hoursOf totalsIn judgedFigures judgedHours comparedTotals judged afterReading checked
+unfolding workedHour over meets totalOf all same columns digitsFrom wholeOf decimalsBehind fixedOf fieldOf numberOf digitsOf leapYear daysInMonth inQuarter daysBefore hourOfQuarter quarterHour numberHour fieldHour stampHour passesTest totalsOf meanOf quarterOf quarterTotals onto lines last typeIs shapeFault stackFault commonFault within fieldFault valuesFault digitsIn facilityFault facilityLine risingFault hourFault hourNumber hourLine dateFault dueFault runOf runsOf walkDue walkLater walkHours walk readOf linesWith recordsOf valueOn hourAt hoursFrom hoursOf totalsIn judgedFigures judgedHours comparedTotals judged afterReading checked
 worked-hour = refl
 
 pub empty-quarter : numbersOf (checked emptyQuarter) ≡ 0 ∷ 0 ∷ 0 ∷ 0 ∷ 0 ∷ []
-unfolding emptyQuarter over meets totalOf all same columns digitsFrom wholeOf decimalsBehind fixedOf fieldOf numberOf digitsOf leapYear daysInMonth inQuarter daysBefore hourOfQuarter quarterHour numberHour fieldHour stampHour passesTest totalsOf meanOf quarterOf quarterTotals onto lines last typeIs shapeFault stackFault fieldFault valuesFault numberWithin yearOn quarterOn facilityFault risingFault hourOn hourFault dateFault dueFault runOf runsOf walkDue walkLater hourAfter walkHours walk readOf linesWith recordsOf valueOn hourAt hoursFrom hoursOf totalsIn judgedFigures judgedHours comparedTotals judged afterReading checked
+unfolding emptyQuarter over meets totalOf all same columns digitsFrom wholeOf decimalsBehind fixedOf fieldOf numberOf digitsOf leapYear daysInMonth inQuarter daysBefore hourOfQuarter quarterHour numberHour fieldHour stampHour passesTest totalsOf meanOf quarterOf quarterTotals onto lines last typeIs shapeFault stackFault commonFault within fieldFault valuesFault digitsIn facilityFault facilityLine risingFault hourFault hourNumber hourLine dateFault dueFault runOf runsOf walkDue walkLater walkHours walk readOf linesWith recordsOf valueOn hourAt hoursFrom hoursOf totalsIn judgedFigures judgedHours comparedTotals judged afterReading checked
 empty-quarter = refl
 
--- a NOx rate of 0.958 is refused on its own line, the ninth
-pub wrong-rate : numbersOf (checked (put 341 (57 ∷ []) workedHour)) ≡ 13 ∷ 9 ∷ []
-unfolding put workedHour over meets totalOf all same columns digitsFrom wholeOf decimalsBehind fixedOf fieldOf numberOf digitsOf leapYear daysInMonth inQuarter daysBefore hourOfQuarter quarterHour numberHour fieldHour stampHour passesTest totalsOf meanOf quarterOf quarterTotals onto lines last typeIs shapeFault stackFault fieldFault valuesFault numberWithin yearOn quarterOn facilityFault risingFault hourOn hourFault dateFault dueFault runOf runsOf walkDue walkLater hourAfter walkHours walk readOf linesWith recordsOf valueOn hourAt hoursFrom hoursOf totalsIn judgedFigures judgedHours comparedTotals judged afterReading checked
-wrong-rate = refl
+-- a file, and the number and the line that the check names
+pub record Damage : Type 0 where
+  pub file : List ℕ
+  pub number : ℕ
+  pub line : ℕ
+
+-- the worked hour with these bytes from this byte on, counted from 1
+abbrev pub changed : ℕ → List ℕ → List ℕ
+changed at bytes = put at bytes workedHour
+
+-- every line number is told from the lines of the file: those that the line checks count, those of the figures, and that of the totals
+abbrev pub damages : List Damage
+damages =
+    -- no byte 10 at the end
+    record { file = take 381 workedHour; number = 1; line = 0 }
+    -- 310 begins with 910
+    ∷ record { file = changed 268 (57 ∷ []); number = 2; line = 8 }
+    -- a line follows the last one
+    ∷ record { file = workedHour ++ (51 ∷ 10 ∷ []); number = 2; line = 11 }
+    -- 202 has lost its last column
+    ∷ record { file = take 124 workedHour ++ drop 125 workedHour; number = 3; line = 4 }
+    -- byte 127 in a column of 201 that is not read
+    ∷ record { file = changed 66 (127 ∷ []); number = 4; line = 3 }
+    -- XTACK1 on 220
+    ∷ record { file = changed 130 (88 ∷ []); number = 5; line = 5 }
+    -- month 13 on 200
+    ∷ record { file = changed 33 (49 ∷ 51 ∷ []); number = 6; line = 2 }
+    -- hour 01 on 320
+    ∷ record { file = changed 322 (49 ∷ []); number = 7; line = 9 }
+    -- no point on 330
+    ∷ record { file = changed 380 (48 ∷ []); number = 8; line = 10 }
+    -- CO2 0.0 percent
+    ∷ record { file = changed 122 (48 ∷ 48 ∷ 46 ∷ 48 ∷ []); number = 9; line = 4 }
+    -- 330 is missing
+    ∷ record { file = take 357 workedHour; number = 10; line = 10 }
+    -- heat input 1,933.3; SO2 930.0; NOx 0.958; CO2 936.8
+    ∷ record { file = changed 213 (57 ∷ []); number = 11; line = 6 }
+    ∷ record { file = changed 294 (57 ∷ []); number = 12; line = 8 }
+    ∷ record { file = changed 341 (57 ∷ []); number = 13; line = 9 }
+    ∷ record { file = changed 377 (57 ∷ []); number = 14; line = 10 }
+    -- heat total 966.7
+    ∷ record { file = changed 257 (57 ∷ []); number = 23; line = 7 }
+    ∷ []
+
+unfoldable pub tried : List Damage → Bool
+tried [] = true
+tried (d ∷ ds) = same (numbersOf (checked (d .file))) (refusal (d .number) (d .line)) && tried ds
+
+pub damages-named : tried damages ≡ true
+unfolding put workedHour tried over meets totalOf all same columns digitsFrom wholeOf decimalsBehind fixedOf fieldOf numberOf digitsOf leapYear daysInMonth inQuarter daysBefore hourOfQuarter quarterHour numberHour fieldHour stampHour passesTest totalsOf meanOf quarterOf quarterTotals onto lines last typeIs shapeFault stackFault commonFault within fieldFault valuesFault digitsIn facilityFault facilityLine risingFault hourFault hourNumber hourLine dateFault dueFault runOf runsOf walkDue walkLater walkHours walk readOf linesWith recordsOf valueOn hourAt hoursFrom hoursOf totalsIn judgedFigures judgedHours comparedTotals judged afterReading checked
+damages-named = refl

@@ -1,5 +1,4 @@
 -- What an answer says of the hours: an acceptance, that every figure passes; a refusal of a figure, that this one fails.
--- Assumes nothing.
 use Prim.Native.Nat.{ℕ, zero, suc, _+_, _-_, _≤_, _<_}
 use mathlib.Core.Path.{_≡_, refl, sym, ap, _∙_}
 use mathlib.Core.List.{List, [], _∷_}
@@ -46,7 +45,8 @@ abbrev PassIn : List Quantity → Hour → Type 0
 PassIn [] h = Unit {0}
 PassIn (q ∷ qs) h = (passesTest q h ≡ true) × PassIn qs h
 
-figures-accepted : (qs : List Quantity) (file : List ℕ) (k : ℕ) (h : Hour) (rest : Answer) (r : Quarter) → judgedFigures qs file k h rest ≡ Accepted r → PassIn qs h × (rest ≡ Accepted r)
+figures-accepted : (qs : List Quantity) (file : List ℕ) (k : ℕ) (h : Hour) (rest : Answer) (r : Quarter) → judgedFigures qs file k h rest ≡ Accepted r →
+    PassIn qs h × (rest ≡ Accepted r)
 unfolding judgedFigures
 figures-accepted [] file k h rest r e = (tt, e)
 figures-accepted (q ∷ qs) file k h rest r e = go (passesTest q h) refl e (figures-accepted qs file k h rest r)
@@ -63,7 +63,8 @@ all-in h p So2 = p .1 .0
 all-in h p Nox = p .1 .1 .0
 all-in h p Co2 = p .1 .1 .1 .0
 
-pub hours-accepted : (file : List ℕ) (k : ℕ) (hs : List Hour) (rest : Answer) (r : Quarter) → judgedHours file k hs rest ≡ Accepted r → AllPass hs × (rest ≡ Accepted r)
+pub hours-accepted : (file : List ℕ) (k : ℕ) (hs : List Hour) (rest : Answer) (r : Quarter) → judgedHours file k hs rest ≡ Accepted r →
+    AllPass hs × (rest ≡ Accepted r)
 unfolding judgedHours
 hours-accepted file k [] rest r e = (tt, e)
 hours-accepted file k (h ∷ hs) rest r e =
@@ -91,14 +92,17 @@ named Co2 = refl
 same-quantity : (p q : Quantity) → numberFor p ≡ numberFor q → p ≡ q
 same-quantity p q e = sym (named p) ∙ ap (λ (n : ℕ). quantityAt (n - 11)) e ∙ named q
 
-figures-refused : (qs : List Quantity) (file : List ℕ) (k : ℕ) (h : Hour) (rest : Answer) (q : Quantity) (line : ℕ) → judgedFigures qs file k h rest ≡ refusedAt (numberFor q) line →
+figures-refused : (qs : List Quantity) (file : List ℕ) (k : ℕ) (h : Hour) (rest : Answer) (q : Quantity) (line : ℕ) →
+    judgedFigures qs file k h rest ≡ refusedAt (numberFor q) line →
     ((passesTest q h ≡ false) × (line ≡ lineFor file q k)) ⊎ (rest ≡ refusedAt (numberFor q) line)
 unfolding judgedFigures
 figures-refused [] file k h rest q line e = inr e
 figures-refused (p ∷ ps) file k h rest q line e = go (passesTest p h) refl e (figures-refused ps file k h rest q line)
   where
-    go : (t : Bool) → passesTest p h ≡ t → elim t [ true ↦ judgedFigures ps file k h rest | false ↦ refusedAt (numberFor p) (lineFor file p k) ] ≡ refusedAt (numberFor q) line →
-        (judgedFigures ps file k h rest ≡ refusedAt (numberFor q) line → ((passesTest q h ≡ false) × (line ≡ lineFor file q k)) ⊎ (rest ≡ refusedAt (numberFor q) line)) →
+    go : (t : Bool) → passesTest p h ≡ t →
+        elim t [ true ↦ judgedFigures ps file k h rest | false ↦ refusedAt (numberFor p) (lineFor file p k) ] ≡ refusedAt (numberFor q) line →
+        (judgedFigures ps file k h rest ≡ refusedAt (numberFor q) line → ((passesTest q h ≡ false) × (line ≡ lineFor file q k)) ⊎ (rest
+        ≡ refusedAt (numberFor q) line)) →
         ((passesTest q h ≡ false) × (line ≡ lineFor file q k)) ⊎ (rest ≡ refusedAt (numberFor q) line)
     go true f w ih = ih w
     go false f w ih =
@@ -113,7 +117,8 @@ pub record Failing (file : List ℕ) (k : ℕ) (q : Quantity) (line : ℕ) : Typ
   pub own : line ≡ lineFor file q hour
   pub fails : passesTest q (hourAt file hour) ≡ false
 
-pub hours-refused : (file : List ℕ) (k left : ℕ) (rest : Answer) (q : Quantity) (line : ℕ) → judgedHours file k (hoursFrom file k left) rest ≡ refusedAt (numberFor q) line →
+pub hours-refused : (file : List ℕ) (k left : ℕ) (rest : Answer) (q : Quantity) (line : ℕ) →
+    judgedHours file k (hoursFrom file k left) rest ≡ refusedAt (numberFor q) line →
     Failing file (k + left) q line ⊎ (rest ≡ refusedAt (numberFor q) line)
 unfolding judgedHours hoursFrom
 hours-refused file k zero rest q line e = inr e
@@ -140,13 +145,23 @@ pub record Agree (f s : Quarter) : Type 0 where
   pub heat : f .heat ≡ s .heat
   pub nox : f .nox ≡ s .nox
 
+-- what four tests, one for each total, decide
+abbrev decided : ℕ → Quarter → (a b c d : Bool) → Answer
+decided line f a b c d =
+    elim a [
+      | false ↦ refusedAt 21 line
+      | true ↦
+          elim b [ false ↦ refusedAt 22 line | true ↦ elim c [ false ↦ refusedAt 23 line | true ↦ elim d [ false ↦ refusedAt 24 line | true ↦ Accepted f ] ] ]
+    ]
+
 module _ (line : ℕ) (f s : Quarter) where
   pub totals-accepted : (r : Quarter) → comparedTotals line f s ≡ Accepted r → (f ≡ r) × Agree f s
   unfolding comparedTotals
   totals-accepted r e = go (eqb (f .so2) (s .so2)) refl (eqb (f .co2) (s .co2)) refl (eqb (f .heat) (s .heat)) refl (eqb (f .nox) (s .nox)) refl e
     where
-      go : (a : Bool) → eqb (f .so2) (s .so2) ≡ a → (b : Bool) → eqb (f .co2) (s .co2) ≡ b → (c : Bool) → eqb (f .heat) (s .heat) ≡ c → (d : Bool) → eqb (f .nox) (s .nox) ≡ d →
-          elim a [ false ↦ refusedAt 21 line | true ↦ elim b [ false ↦ refusedAt 22 line | true ↦ elim c [ false ↦ refusedAt 23 line | true ↦ elim d [ false ↦ refusedAt 24 line | true ↦ Accepted f ] ] ] ] ≡ Accepted r →
+      go : (a : Bool) → eqb (f .so2) (s .so2) ≡ a → (b : Bool) → eqb (f .co2) (s .co2) ≡ b → (c : Bool) → eqb (f .heat) (s .heat) ≡ c → (d : Bool) →
+          eqb (f .nox) (s .nox) ≡ d →
+          decided line f a b c d ≡ Accepted r →
           (f ≡ r) × Agree f s
       go false p b q c t d u w = never-accepted 21 line r w
       go true p false q c t d u w = never-accepted 22 line r w
@@ -156,13 +171,15 @@ module _ (line : ℕ) (f s : Quarter) where
 
   pub totals-agree : Agree f s → comparedTotals line f s ≡ Accepted f
   unfolding comparedTotals
-  totals-agree a = go _ (eq-eqb (f .so2) (s .so2) (a .so2)) _ (eq-eqb (f .co2) (s .co2) (a .co2)) _ (eq-eqb (f .heat) (s .heat) (a .heat)) _ (eq-eqb (f .nox) (s .nox) (a .nox))
+  totals-agree a =
+      go _ (eq-eqb (f .so2) (s .so2) (a .so2)) _ (eq-eqb (f .co2) (s .co2) (a .co2)) _ (eq-eqb (f .heat) (s .heat) (a .heat)) _
+      (eq-eqb (f .nox) (s .nox) (a .nox))
     where
       no : {A : Type 0} → false ≡ true → A
       no e = absurd (let z : _≡_ {A = ℕ} 0 1 = cc in omega arith)
 
       go : (a : Bool) → a ≡ true → (b : Bool) → b ≡ true → (c : Bool) → c ≡ true → (d : Bool) → d ≡ true →
-          elim a [ false ↦ refusedAt 21 line | true ↦ elim b [ false ↦ refusedAt 22 line | true ↦ elim c [ false ↦ refusedAt 23 line | true ↦ elim d [ false ↦ refusedAt 24 line | true ↦ Accepted f ] ] ] ] ≡ Accepted f
+          decided line f a b c d ≡ Accepted f
       go false p b q c t d u = no p
       go true p false q c t d u = no q
       go true p true q false t d u = no t
@@ -176,7 +193,7 @@ module _ (line : ℕ) (f s : Quarter) where
       high : (number : ℕ) → 15 ≤ number → refusedAt number line ≡ refusedAt (numberFor q) at → ⊥
       high number h w = omega (arith, number-low q, same-number number line (numberFor q) at w .0)
 
-      go : (a b c d : Bool) → elim a [ false ↦ refusedAt 21 line | true ↦ elim b [ false ↦ refusedAt 22 line | true ↦ elim c [ false ↦ refusedAt 23 line | true ↦ elim d [ false ↦ refusedAt 24 line | true ↦ Accepted f ] ] ] ] ≡ refusedAt (numberFor q) at → ⊥
+      go : (a b c d : Bool) → decided line f a b c d ≡ refusedAt (numberFor q) at → ⊥
       go false b c d w = high 21 (omega arith) w
       go true false c d w = high 22 (omega arith) w
       go true true false d w = high 23 (omega arith) w

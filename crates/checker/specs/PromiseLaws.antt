@@ -1,5 +1,4 @@
 -- The promise holds of what the check answers to every file. Promise.antt states it.
--- Assumes nothing.
 use Prim.Native.Nat.{ℕ, zero, suc, _+_, _≤_, _<_}
 use mathlib.Core.Path.{_≡_, refl, sym, ap, subst₂, _∙_}
 use mathlib.Core.List.{List, [], _∷_}
@@ -8,18 +7,18 @@ use mathlib.Core.Logic.{_⊎_, ⊎-elim}
 use native.Mathlib.Omega.{arith}
 use lib.ListN.{length, getD}
 use Rattle.exact.specs.Fraction.{Near}
-use Rattle.formulas.specs.Hour.{HourWithin, Unrounded, Entry, entryOf}
+use Rattle.formulas.specs.Hour.{HourWithin, HoursWithin, Unrounded, Entry, entryOf}
 use Rattle.formulas.specs.Formulas.{LiesBehind, passesTest}
 use Rattle.formulas.specs.FormulaLaws.{test-exact}
-use Rattle.totals.specs.Totals.{totalsOf, quarterOf, quarterTotals}
-use Rattle.layout.specs.Layout.{shape}
+use Rattle.totals.specs.Totals.{quarterTotals}
+use Rattle.totals.specs.TotalLaws.{quarter-hours}
 use Rattle.layout.specs.declared.RecordType.the-variants.{QuarterTotals}
 use Rattle.formulas.specs.declared.hour.Hour.{Hour}
 use Rattle.formulas.specs.declared.hour.Quantity.{Quantity}
 use Rattle.totals.specs.declared.Quarter.{Quarter}
 use Rattle.reading.specs.Reading.{readOf}
 use Rattle.reading.specs.Recorded.{recordAt, hourCount, hourAt, hoursFrom, hoursOf, totalsIn}
-use Rattle.reading.specs.CleanFile.{CleanFile, clean-file}
+use Rattle.reading.specs.CleanFile.{CleanFile, clean-file, clean-hour}
 use Rattle.reading.specs.RecordLaws.{hours-standing}
 use Rattle.reading.specs.RefusalLaws.{refused-number}
 use Rattle.reading.specs.declared.Report.{Report}
@@ -29,7 +28,7 @@ use Rattle.reading.specs.declared.Reading.the-variants.{Clean, Refused as Stopp
 use Rattle.checker.specs.Checked.{acceptance, refusal, numbersOf, refusedAt, numberFor, comparedTotals, judgedHours, judged, afterReading, checked}
 use Rattle.checker.specs.Promise.{LieBehind, SetsBehind, HonestlyRounded, exactAmount, reported, allowed, FailsAt, Promise}
 use Rattle.checker.specs.JudgedLaws.{never-accepted, Passes, AllPass, hours-accepted, hours-pass, Failing, hours-refused, Agree, totals-accepted, totals-agree, totals-refused, number-high}
-use Rattle.checker.specs.BoundLaws.{AllWithin, amount-bound}
+use Rattle.checker.specs.BoundLaws.{amount-bound}
 use Rattle.checker.specs.declared.Answer.{Answer}
 use Rattle.checker.specs.declared.Answer.the-variants.{Accepted, Refused}
 
@@ -42,17 +41,17 @@ pub hours-count : (file : List ℕ) → length (hoursOf file) ≡ hourCount file
 unfolding hoursOf
 hours-count file = hours-length file 0 (hourCount file)
 
-hours-within : (file : List ℕ) (n k left : ℕ) → ((j : ℕ) → j < n → HourWithin (hourAt file j)) → k + left ≤ n → AllWithin (hoursFrom file k left)
+hours-within : (file : List ℕ) (n k left : ℕ) → ((j : ℕ) → j < n → HourWithin (hourAt file j)) → k + left ≤ n → HoursWithin (hoursFrom file k left)
 unfolding hoursFrom
 hours-within file n k zero w h = tt
 hours-within file n k (suc left) w h = (w k (omega arith), hours-within file n (suc k) left w (omega arith))
 
-all-within : (file : List ℕ) (r : Report) → CleanFile file r → AllWithin (hoursOf file)
+all-within : (file : List ℕ) (r : Report) → CleanFile file r → HoursWithin (hoursOf file)
 unfolding hoursOf
-all-within file r c = hours-within file (r .hours) 0 (hourCount file) (c .within) (omega (arith, hours-standing file (shape (r .hours)) (c .standing)))
+all-within file r c = hours-within file (r .shape .hours) 0 (hourCount file) (clean-hour file r c) (omega (arith, hours-standing file (r .shape) (c .standing)))
 
 -- behind figures that pass lie readings, and figures behind which readings lie pass
-pass-behind : (q : Quantity) (hs : List Hour) → AllWithin hs → AllPass hs → (es : List (Entry q)) × LieBehind q hs es
+pass-behind : (q : Quantity) (hs : List Hour) → HoursWithin hs → AllPass hs → (es : List (Entry q)) × LieBehind q hs es
 unfolding Passes
 pass-behind q [] w p = ([], tt)
 pass-behind q (h ∷ hs) w p =
@@ -60,7 +59,7 @@ pass-behind q (h ∷ hs) w p =
     let r = pass-behind q hs (w .1) (p .1) in
     (b .0 ∷ r .0, (b .1, r .1))
 
-behind-pass : (hs : List Hour) (sets : List Unrounded) → AllWithin hs → SetsBehind hs sets → AllPass hs
+behind-pass : (hs : List Hour) (sets : List Unrounded) → HoursWithin hs → SetsBehind hs sets → AllPass hs
 unfolding Passes
 behind-pass [] [] w b = tt
 behind-pass [] (s ∷ ss) w b = absurd b
@@ -76,8 +75,7 @@ record Facts (file : List ℕ) (r : Quarter) : Type 0 where
   agree : Agree (quarterTotals (hoursOf file)) (totalsIn file)
 
 formed-hours : (file : List ℕ) → quarterTotals (hoursOf file) .hours ≡ hourCount file
-unfolding quarterTotals quarterOf totalsOf
-formed-hours file = hours-count file
+formed-hours file = quarter-hours (hoursOf file) ∙ hours-count file
 
 accepted-facts : (file : List ℕ) (r : Quarter) → checked file ≡ Accepted r → Facts file r
 unfolding checked afterReading judged
@@ -98,7 +96,14 @@ honest-checked file sets h =
     let hs = hoursOf file in
     let p = behind-pass hs sets (all-within file (h .report) (clean-file file (h .report) (h .clean))) (h .behind) in
     let t = h .totals in
-    let a : Agree (quarterTotals hs) (totalsIn file) = record { so2 = ap (λ (y : Quarter). y .so2) (sym t); co2 = ap (λ (y : Quarter). y .co2) (sym t); heat = ap (λ (y : Quarter). y .heat) (sym t); nox = ap (λ (y : Quarter). y .nox) (sym t) } in
+    let a : Agree (quarterTotals hs) (totalsIn file) =
+    record {
+      so2 = ap (λ (y : Quarter). y .so2) (sym t);
+      co2 = ap (λ (y : Quarter). y .co2) (sym t);
+      heat = ap (λ (y : Quarter). y .heat) (sym t);
+      nox = ap
+          (λ (y : Quarter). y .nox) (sym t);
+    } in
     ap (afterReading file) (h .clean) ∙ hours-pass file 0 hs _ p ∙ totals-agree (recordAt file QuarterTotals 0 .number) (quarterTotals hs) (totalsIn file) a
 
 same-quarter : (f s : Quarter) → f .hours ≡ s .hours → Agree f s → f ≡ s
@@ -112,7 +117,7 @@ refused-rightly file q line e = go (readOf file) refl e
     go (Stopped x) c w = absurd (number-high q (x .number) (x .line) line w (refused-number file x c))
     go (Clean report) c w =
         let f = clean-file file report c in
-        let n = hours-standing file (shape (report .hours)) (f .standing) in
+        let n = hours-standing file (report .shape) (f .standing) in
         ⊎-elim
         (λ (g : Failing file (0 + hourCount file) q line).
         record {
@@ -121,13 +126,15 @@ refused-rightly file q line e = go (readOf file) refl e
           hour = g .hour;
           exists = omega (arith, g .exists);
           own = g .own;
-          nothing = λ e b. let t = test-exact q (hourAt file (g .hour)) (f .within (g .hour) (omega (arith, g .exists)) .readings) .1 (e, b) in let l = g .fails in let z : _≡_ {A = ℕ} 0 1 = cc in omega arith;
+          nothing =
+              λ e b. let t = test-exact q (hourAt file (g .hour)) (clean-hour file report f (g .hour) (omega (arith, g .exists)) .readings) .1
+              (e, b) in let l = g .fails in let z : _≡_ {A = ℕ} 0 1 = cc in omega arith;
         })
         (λ z. absurd (totals-refused (recordAt file QuarterTotals 0 .number) (quarterTotals (hoursOf file)) (totalsIn file) q line z))
         (hours-refused file 0 (hourCount file) (comparedTotals (recordAt file QuarterTotals 0 .number) (quarterTotals (hoursOf file)) (totalsIn file)) q line w)
 
 module _ (file : List ℕ) (r : Quarter) (e : checked file ≡ Accepted r) where
-  accepted-within : AllWithin (hoursOf file)
+  accepted-within : HoursWithin (hoursOf file)
   accepted-within = let f = accepted-facts file r e in all-within file (f .report) (clean-file file (f .report) (f .clean))
 
   accepted-behind : (q : Quantity) → (es : List (Entry q)) × LieBehind q (hoursOf file) es
@@ -136,9 +143,11 @@ module _ (file : List ℕ) (r : Quarter) (e : checked file ≡ Accepted r) where
   accepted-count : r .hours ≡ hourCount file
   accepted-count = ap (λ (y : Quarter). y .hours) (sym (accepted-facts file r e .formed)) ∙ formed-hours file
 
-  accepted-bounds : (q : Quantity) (es : List (Entry q)) → LieBehind q (hoursOf file) es → Near (exactAmount q (hoursOf file) es) (reported q r) (allowed q (r .hours))
+  accepted-bounds : (q : Quantity) (es : List (Entry q)) → LieBehind q (hoursOf file) es →
+      Near (exactAmount q (hoursOf file) es) (reported q r) (allowed q (r .hours))
   accepted-bounds q es b =
-      subst₂ (λ (x : Quarter) (n : ℕ). Near (exactAmount q (hoursOf file) es) (reported q x) (allowed q n)) (accepted-facts file r e .formed) (hours-count file ∙ sym accepted-count)
+      subst₂ (λ (x : Quarter) (n : ℕ). Near (exactAmount q (hoursOf file) es) (reported q x) (allowed q n)) (accepted-facts file r e .formed)
+      (hours-count file ∙ sym accepted-count)
       (amount-bound q (hoursOf file) es accepted-within b)
 
   accepted-totals : r ≡ totalsIn file

@@ -12,7 +12,7 @@ ghost use Rattle.checker.specs.Checked.{refusedAt, quantityAt, typeFor, 
 ghost use Rattle.checker.specs.Promise.{Promise};
 ghost use Rattle.checker.specs.Judging.{Judgeable};
 
-// 01's acceptance, with the operating hours and totals, or a refusal.
+// An acceptance, with the operating hours and totals, or a refusal.
 pub enum Answer {
     Accepted(Quarter),
     Refused(Refusal),
@@ -67,26 +67,27 @@ fn compare(line: usize, formed: Quarter, stated: Quarter) -> Answer
     Answer::Accepted(formed)
 }
 
-// The hours of a file of n operating hours whose lines are right, and its totals. The hour pass is abandoned at the first figure
+// The hours of a file of a shape whose lines are right, and its totals. The hour pass is abandoned at the first figure
 // that fails; it yields that figure's refusal, or the number 0.
-fn judge(file: &[u8], n: usize) -> Answer
-    requires { ⌜ Judgeable (now file) n ⌝ }
+fn judge(file: &[u8], s: Shape) -> Answer
+    requires { ⌜ Judgeable (now file) s ⌝ }
     ensures { λ r. ⌜ r ≡ judged (now (file .entry)) ⌝ }
 {
+    let hours = s.hours;
     let mut totals = Totals::none();
     let mut k: usize = 0;
     let failed = 'hours: loop {
-        if k == n {
+        if k == hours {
             break 'hours Refusal { number: 0, line: 0 };
         }
-        let hour = reading::hour(file, Shape { hours: n }, k);
+        let hour = reading::hour(file, s, k);
         let mut j: usize = 0;
         while j < 4 {
             let q = quantity_at(j);
             if !formulas::figure_passes(q, hour) {
                 break 'hours Refusal {
                     number: 11 + j as u64,
-                    line: layout::line_of(Shape { hours: n }, type_for(q), k),
+                    line: layout::line_of(s, type_for(q), k),
                 };
             }
             j += 1;
@@ -98,9 +99,9 @@ fn judge(file: &[u8], n: usize) -> Answer
         return Answer::Refused(failed);
     }
     compare(
-        layout::line_of(Shape { hours: n }, RecordType::QuarterTotals, 0),
+        layout::line_of(s, RecordType::QuarterTotals, 0),
         totals.quarter(),
-        reading::totals(file, Shape { hours: n }),
+        reading::totals(file, s),
     )
 }
 
@@ -111,6 +112,6 @@ pub fn check(file: &[u8]) -> Answer
     let reading = reading::read(file);
     match reading {
         Reading::Refused(refusal) => Answer::Refused(refusal),
-        Reading::Clean(report) => judge(file, report.hours),
+        Reading::Clean(report) => judge(file, report.shape),
     }
 }

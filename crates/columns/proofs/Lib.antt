@@ -1,4 +1,3 @@
 -- Laws that the proofs of this crate's functions share, and worked examples.
 pub mod Reading
-pub mod Filling
 pub mod Examples

@@ -1,10 +1,10 @@
 -- What the functions of the boundary return and leave in a lent slice.
--- Assumes nothing.
 use Prim.Native.Nat.{ℕ}
 use mathlib.Core.List.{List, _++_}
 use mathlib.Core.Bool.{true, false}
 use lib.Dec.{eqb, ltb}
 use lib.ListN.{length, drop}
+use Rattle.layout.specs.Layout.{stackWidth}
 use Rattle.checker.specs.Checked.{numbersOf, checked}
 use Rattle.checker.specs.declared.Answer.{Answer}
 use Rattle.checker.specs.declared.Answer.the-variants.{Accepted, Refused}
@@ -32,7 +32,7 @@ writtenCode (Unwritten number) = number
 
 unfoldable pub writeCode : ℕ → ℕ → List ℕ → List ℕ → List ℕ → ℕ
 writeCode year quarter name sheet buffer =
-    elim (eqb (length name) 6) [ false ↦ 31 | true ↦ writtenCode (answered year quarter name sheet (length buffer)) ]
+    elim (eqb (length name) stackWidth) [ false ↦ 31 | true ↦ writtenCode (answered year quarter name sheet (length buffer)) ]
 
 unfoldable pub writeFilled : ℕ → ℕ → List ℕ → List ℕ → List ℕ → List ℕ
-writeFilled year quarter name sheet buffer = elim (eqb (length name) 6) [ false ↦ buffer | true ↦ buffered year quarter name sheet buffer ]
+writeFilled year quarter name sheet buffer = elim (eqb (length name) stackWidth) [ false ↦ buffer | true ↦ buffered year quarter name sheet buffer ]

@@ -42,7 +42,7 @@ pub extern "C" fn edr_write(
     ensures { λ r. ⌜ (r ≡ writeCode year quarter (now (name .entry)) (now (sheet .entry)) (now (buffer .entry)))
         × (now (buffer .exit) ≡ writeFilled year quarter (now (name .entry)) (now (sheet .entry)) (now (buffer .entry))) ⌝ }
 {
-    if name.len() != 6 {
+    if name.len() != layout::STACK_WIDTH {
         return 31;
     }
     let letters = [name[0], name[1], name[2], name[3], name[4], name[5]];

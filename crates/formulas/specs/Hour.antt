@@ -1,5 +1,5 @@
 -- One operating hour: the units of its numbers, the ranges they lie in, and the unrounded readings behind them.
--- Assumes nothing.
+use mathlib.Core.List.{List, [], _∷_}
 use Prim.Native.Nat.{ℕ}
 use lib.Dec.{lit<}
 use Rattle.exact.specs.Fraction.{Fraction, Positive}
@@ -54,6 +54,10 @@ pub record HourWithin (h : Hour) : Type 0 where
   pub time : Within timeHours (h .time)
   pub readings : ReadingsWithin (h .readings)
   pub figures : FiguresWithin (h .figures)
+
+abbrev pub HoursWithin : List Hour → Type 0
+HoursWithin [] = Unit {0}
+HoursWithin (h ∷ hs) = HourWithin h × HoursWithin hs
 
 -- a set of unrounded readings of one hour
 pub record Unrounded : Type 0 where

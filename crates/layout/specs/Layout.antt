@@ -1,10 +1,11 @@
 -- The records of a report: one row a type, and their order. Everything else is derived from the two. Columns count from 1.
 use Prim.Native.Nat.{ℕ, zero, suc, _+_, _*_, _-_, _≤_, _^_}
-use mathlib.Core.Bool.{cond}
+use mathlib.Core.Bool.{Bool, cond, _&&_}
 use mathlib.Core.List.{List, [], _∷_, _++_}
-use lib.Dec.{eqb}
+use lib.Dec.{eqb, leb}
 use lib.ListN.{length, getD, take, drop}
 use Rattle.exact.specs.Sums.{totalOf}
+use Rattle.columns.specs.Written.{digitsOf}
 use Rattle.layout.specs.declared.RecordType.{RecordType}
 use Rattle.layout.specs.declared.RecordType.the-variants.{Facility, So2Concentration, NoxConcentration, Co2Concentration, VolumetricFlow, Operation, QuarterTotals, So2Mass, NoxRate, Co2Mass}
 use Rattle.layout.specs.declared.Value.{Value}
@@ -31,6 +32,10 @@ stackStart = 4
 
 abbrev pub stackWidth : ℕ
 stackWidth = 6
+
+-- date and hour, YYMMDDHH
+abbrev pub dateWidth : ℕ
+dateWidth = 8
 
 -- line 100, digits only
 
@@ -127,6 +132,10 @@ order = Facility ∷ So2Concentration ∷ NoxConcentration ∷ Co2Concentration 
 abbrev pub codeOf : RecordType → ℕ
 codeOf t = recordOf t .code
 
+-- the first columns of its lines
+abbrev pub typeDigits : RecordType → List ℕ
+typeDigits t = digitsOf typeWidth (codeOf t)
+
 abbrev pub lengthOf : RecordType → ℕ
 lengthOf t = recordOf t .length
 
@@ -139,13 +148,17 @@ valuesOf t = recordOf t .values
 abbrev pub valueCount : RecordType → ℕ
 valueCount t = length (valuesOf t)
 
+-- no record has more
+abbrev pub mostValues : ℕ
+mostValues = 4
+
 -- the i-th value of a record from the left, from 0
 abbrev pub valueAt : RecordType → ℕ → Value
 valueAt t i = getD (valuesOf t) i noValue
 
 -- the numbers of a row, as the code has them
 abbrev pub rowOf : RecordType → Row
-rowOf t = record { code = codeOf t; length = lengthOf t; date = dateColumn t; run = recordOf t .run; values = valueCount t }
+rowOf t = record { digits = typeDigits t; length = lengthOf t; date = dateColumn t; run = recordOf t .run; values = valueCount t }
 
 -- the place of a type in the order, found by its code
 abbrev pub placeOf : ℕ → List RecordType → ℕ
@@ -166,7 +179,7 @@ abbrev pub later : RecordType → List RecordType
 later t = drop (rankOf t + 1) order
 
 -- those of which every operating hour has a line
-abbrev keepHourly : Run → RecordType → List RecordType → List RecordType
+abbrev pub keepHourly : Run → RecordType → List RecordType → List RecordType
 keepHourly Once t ts = ts
 keepHourly Hourly t ts = t ∷ ts
 
@@ -210,6 +223,10 @@ reportLength s = totalOf (bytesOf s) order
 pub record Held (s : Shape) : Type 0 where
   pub hours : s .hours ≤ 2208
 
+-- a number of a value's range, and the test of it
 pub record Within (v : Value) (k : ℕ) : Type 0 where
   pub least : v .least ≤ k
   pub most : k ≤ v .most
+
+unfoldable pub within : Value → ℕ → Bool
+within v k = leb (v .least) k && leb k (v .most)

@@ -7,17 +7,18 @@ use native.Mathlib.Omega.{arith}
 use native.Mathlib.Nat.{le-of-suc-le-suc, not-suc-le-zero}
 use lib.Dec.{leb, lit≤}
 use lib.ListN.{length, getD}
-use borrow.Author.Tests.{leb-true}
+use borrow.Author.Tests.{leb-true, le-leb}
 use Rattle.exact.specs.Sums.{totalOf}
-use Rattle.layout.specs.Layout.{codeOf, lengthOf, dateColumn, valueCount, linesOf, recordOf, countOf, bytesOf, order, rankOf, typeAt, reportLength, Held}
+use Rattle.layout.specs.Layout.{codeOf, lengthOf, dateColumn, dateWidth, valueCount, mostValues, linesOf, recordOf, countOf, bytesOf, order, rankOf, typeAt, reportLength, Held, Within, within}
 use Rattle.layout.specs.declared.RecordType.{RecordType}
 use Rattle.layout.specs.declared.RecordType.the-variants.{Facility, So2Concentration, NoxConcentration, Co2Concentration, VolumetricFlow, Operation, QuarterTotals, So2Mass, NoxRate, Co2Mass}
 use Rattle.layout.specs.declared.Run.{Run}
 use Rattle.layout.specs.declared.Run.the-variants.{Once, Hourly}
 use Rattle.layout.specs.declared.Shape.{Shape}
+use Rattle.layout.specs.declared.Value.{Value}
 
 -- a test of a type, of all types
-abbrev allTypes : (RecordType → Bool) → List RecordType → Bool
+abbrev pub allTypes : (RecordType → Bool) → List RecordType → Bool
 allTypes p [] = true
 allTypes p (t ∷ ts) = p t && allTypes p ts
 
@@ -56,8 +57,8 @@ length-most t = each-le (λ t. lengthOf t) (λ t. 99) refl t
 pub length-least : (t : RecordType) → 14 ≤ lengthOf t
 length-least t = each-le (λ t. 14) (λ t. lengthOf t) refl t
 
-pub values-most : (t : RecordType) → valueCount t ≤ 8
-values-most t = each-le (λ t. valueCount t) (λ t. 8) refl t
+pub values-most : (t : RecordType) → valueCount t ≤ mostValues
+values-most t = each-le (λ t. valueCount t) (λ t. mostValues) refl t
 
 -- date and hour, eight columns, lie within the line and behind the stack name
 pub date-inside : (t : RecordType) → (1 ≤ dateColumn t) → (10 ≤ dateColumn t) × (dateColumn t + 7 ≤ lengthOf t)
@@ -66,12 +67,25 @@ date-inside t h =
     let b = each-le (λ t. dateColumn t + 7) (λ t. lengthOf t) refl t in
     omega arith
 
+-- they do so where a record has none, too: then they would start the line
+pub date-fits : (t : RecordType) → dateColumn t - 1 + dateWidth ≤ lengthOf t
+date-fits t = each-le (λ t. dateColumn t - 1 + dateWidth) (λ t. lengthOf t) refl t
+
 pub count-most : (s : Shape) → Held s → (t : RecordType) → countOf s t ≤ 2208
 count-most s h t = go (recordOf t .run)
   where
     go : (run : Run) → linesOf run s ≤ 2208
     go Once = omega arith
     go Hourly = omega arith
+
+-- the test of a range
+pub within-true : (v : Value) (k : ℕ) → within v k ≡ true → Within v k
+unfolding within
+within-true v k e = let b = both (leb (v .least) k) (leb k (v .most)) e in record { least = leb-true _ _ (b .0); most = leb-true _ _ (b .1) }
+
+pub true-within : (v : Value) (k : ℕ) → Within v k → within v k ≡ true
+unfolding within
+true-within v k w = rw (le-leb _ _ (w .least), le-leb _ _ (w .most))
 
 pub report-length : (s : Shape) → reportLength s ≡ 64 + 318 * s .hours
 unfolding reportLength totalOf

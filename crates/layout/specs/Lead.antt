@@ -47,10 +47,13 @@ add-run s b Hourly size = front _ _ _ _ (omega arith) (omega arith)
 
 lead-to : (code : ℕ) (s : Shape) (b : Lead) (ts : List RecordType) → upTo code s (sizedBy s b) ts ≡ sizedBy s (leadTo code b ts)
 lead-to code s b [] = refl
-lead-to code s b (t ∷ ts) = go (eqb (codeOf t) code) (ap (λ f. upTo code s f ts) (add-run s b (recordOf t .run) (lengthOf t + 1)) ∙ lead-to code s (addRun (recordOf t .run) (lengthOf t + 1) b) ts)
+lead-to code s b (t ∷ ts) =
+    go (eqb (codeOf t) code) (ap (λ f. upTo code s f ts) (add-run s b (recordOf t .run) (lengthOf t + 1))
+    ∙ lead-to code s (addRun (recordOf t .run) (lengthOf t + 1) b) ts)
   where
     go : (here : Bool) → upTo code s (past s (sizedBy s b) t) ts ≡ sizedBy s (leadTo code (addRun (recordOf t .run) (lengthOf t + 1) b) ts) →
-        cond here (sizedBy s b) (upTo code s (past s (sizedBy s b) t) ts) ≡ sizedBy s (cond here b (leadTo code (addRun (recordOf t .run) (lengthOf t + 1) b) ts))
+        cond here (sizedBy s b) (upTo code s (past s (sizedBy s b) t) ts) ≡ sizedBy s
+        (cond here b (leadTo code (addRun (recordOf t .run) (lengthOf t + 1) b) ts))
     go true e = refl
     go false e = e
 

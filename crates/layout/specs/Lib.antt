@@ -3,3 +3,5 @@ pub mod LayoutLaws
 pub mod ValueLaws
 pub mod Lead
 pub mod PlaceLaws
+pub mod TypeLaws
+pub mod RunLaws

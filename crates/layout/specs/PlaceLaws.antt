@@ -1,54 +1,69 @@
 -- Where the runs of a report join: each type starts behind those before it, and the order is those, the type and those behind it.
-use Prim.Native.Nat.{ℕ, _+_, _*_}
+use Prim.Native.Nat.{ℕ, zero, suc, _+_, _*_, _≤_, _<_}
 use mathlib.Core.Path.{_≡_, refl, sym, ap, _∙_}
+use mathlib.Core.Bool.{Bool, true, false, cond}
 use mathlib.Core.List.{List, [], _∷_, _++_, append-assoc}
 use native.Mathlib.Omega.{arith}
-use lib.ListN.{length, drop}
-use lib.Seq.{drop-at, drop-drop}
+use native.Mathlib.Nat.{mul-le-mul-left}
+use native.Mathlib.Numerals.{add-one}
+use lib.Dec.{eqb}
+use lib.ListN.{length, take, drop}
+use lib.Seq.{split-at, drop-at, drop-drop}
 use Rattle.exact.specs.Sums.{totalOf}
-use Rattle.layout.specs.Layout.{order, earlier, later, countOf, bytesOf, frontOf}
+use Rattle.layout.specs.Layout.{codeOf, lengthOf, order, placeOf, rankOf, earlier, later, countOf, bytesOf, past, upTo, nothing, frontOf, offsetOf, reportLength}
+use Rattle.layout.specs.LayoutLaws.{in-order}
 use Rattle.layout.specs.declared.RecordType.{RecordType}
-use Rattle.layout.specs.declared.RecordType.the-variants.{Facility, So2Concentration, NoxConcentration, Co2Concentration, VolumetricFlow, Operation, QuarterTotals, So2Mass, NoxRate, Co2Mass}
+use Rattle.layout.specs.declared.RecordType.the-variants.{Facility, Co2Mass}
+use Rattle.layout.specs.declared.Front.{Front}
 use Rattle.layout.specs.declared.Shape.{Shape}
 
 pub order-split : (t : RecordType) → order ≡ earlier t ++ (t ∷ later t)
-order-split Facility = refl
-order-split So2Concentration = refl
-order-split NoxConcentration = refl
-order-split Co2Concentration = refl
-order-split VolumetricFlow = refl
-order-split Operation = refl
-order-split QuarterTotals = refl
-order-split So2Mass = refl
-order-split NoxRate = refl
-order-split Co2Mass = refl
+order-split t =
+    let p = in-order t in
+    split-at order (rankOf t) Facility (p .0)
+    ∙ rw (add-one (rankOf t)) (ap (λ u. earlier t ++ (u ∷ drop (suc (rankOf t)) order)) (p .1))
 
--- the bytes in front of a type are those of the types before it, and so are the lines
-pub front-bytes : (s : Shape) (t : RecordType) → frontOf s t .bytes ≡ totalOf (bytesOf s) (earlier t)
+-- what is counted of the types in front of one is the sum over them
+up-to : (count : Front → ℕ) (of : RecordType → ℕ) (s : Shape) → ((b : Front) (t : RecordType) → count (past s b t) ≡ count b + of t) →
+    (code : ℕ) (b : Front) (ts : List RecordType) → count (upTo code s b ts) ≡ count b + totalOf of (take (placeOf code ts) ts)
 unfolding totalOf
-front-bytes s Facility = omega arith
-front-bytes s So2Concentration = omega arith
-front-bytes s NoxConcentration = omega arith
-front-bytes s Co2Concentration = omega arith
-front-bytes s VolumetricFlow = omega arith
-front-bytes s Operation = omega arith
-front-bytes s QuarterTotals = omega arith
-front-bytes s So2Mass = omega arith
-front-bytes s NoxRate = omega arith
-front-bytes s Co2Mass = omega arith
+up-to count of s step code b [] = omega arith
+up-to count of s step code b (t ∷ ts) = go (eqb (codeOf t) code) (up-to count of s step code (past s b t) ts)
+  where
+    go : (here : Bool) → count (upTo code s (past s b t) ts) ≡ count (past s b t) + totalOf of (take (placeOf code ts) ts) →
+        count (cond here b (upTo code s (past s b t) ts)) ≡ count b + totalOf of (take (cond here 0 (suc (placeOf code ts))) (t ∷ ts))
+    go true e = omega arith
+    go false e = omega (arith, e, step b t)
+
+pub front-bytes : (s : Shape) (t : RecordType) → frontOf s t .bytes ≡ totalOf (bytesOf s) (earlier t)
+front-bytes s t = up-to (λ b. b .bytes) (bytesOf s) s (λ b u. refl) (codeOf t) nothing order ∙ omega arith
 
 pub front-lines : (s : Shape) (t : RecordType) → frontOf s t .lines ≡ totalOf (countOf s) (earlier t)
+front-lines s t = up-to (λ b. b .lines) (countOf s) s (λ b u. refl) (codeOf t) nothing order ∙ omega arith
+
+total-append : (f : RecordType → ℕ) (ts us : List RecordType) → totalOf f (ts ++ us) ≡ totalOf f ts + totalOf f us
 unfolding totalOf
-front-lines s Facility = omega arith
-front-lines s So2Concentration = omega arith
-front-lines s NoxConcentration = omega arith
-front-lines s Co2Concentration = omega arith
-front-lines s VolumetricFlow = omega arith
-front-lines s Operation = omega arith
-front-lines s QuarterTotals = omega arith
-front-lines s So2Mass = omega arith
-front-lines s NoxRate = omega arith
-front-lines s Co2Mass = omega arith
+total-append f [] us = omega arith
+total-append f (t ∷ ts) us = omega (arith, total-append f ts us)
+
+-- a report: what stands in front of a type, the type's run, and the runs behind it
+pub report-around : (s : Shape) (t : RecordType) → reportLength s ≡ frontOf s t .bytes + (bytesOf s t + totalOf (bytesOf s) (later t))
+unfolding reportLength totalOf
+report-around s t =
+    ap (totalOf (bytesOf s)) (order-split t)
+    ∙ total-append (bytesOf s) (earlier t) (t ∷ later t)
+    ∙ ap (λ (n : ℕ). n + (bytesOf s t + totalOf (bytesOf s) (later t))) (sym (front-bytes s t))
+
+-- the last type ends it
+pub report-ends : (s : Shape) → offsetOf s Co2Mass (s .hours) ≡ reportLength s
+unfolding totalOf
+report-ends s = omega (arith, report-around s Co2Mass)
+
+-- every line lies in the report
+pub line-inside : (s : Shape) (t : RecordType) (k : ℕ) → k < countOf s t → offsetOf s t k + lengthOf t < reportLength s
+line-inside s t k h =
+    let m : (lengthOf t + 1) * (k + 1) ≤ (lengthOf t + 1) * countOf s t = mul-le-mul-left (lengthOf t + 1) (omega arith) in
+    omega (arith, report-around s t)
 
 -- a report is the runs of its types, one after the other
 module _ (run : RecordType → List ℕ) where

@@ -25,9 +25,12 @@ pub record ValueInside (t : RecordType) (v : Value) : Type 0 where
   pub last : v .start - 1 + v .width ≤ lengthOf t
   pub narrow : v .width ≤ 11
   pub room : fewestColumns (v .decimals) ≤ v .width
+  pub decimals : v .decimals < v .width
 
 abbrev insideTest : RecordType → Value → Bool
-insideTest t v = leb 1 (v .start) && leb (v .start - 1 + v .width) (lengthOf t) && leb (v .width) 11 && leb (fewestColumns (v .decimals)) (v .width)
+insideTest t v =
+    leb 1 (v .start) && leb (v .start - 1 + v .width) (lengthOf t) && leb (v .width) 11 && leb (fewestColumns (v .decimals)) (v .width)
+    && leb (suc (v .decimals)) (v .width)
 
 abbrev allInside : RecordType → List Value → Bool
 allInside t [] = true
@@ -38,7 +41,14 @@ test-inside t v e =
     let a = both _ _ e in
     let b = both _ _ (a .0) in
     let c = both _ _ (b .0) in
-    record { first = leb-true _ _ (c .0); last = leb-true _ _ (c .1); narrow = leb-true _ _ (b .1); room = leb-true _ _ (a .1) }
+    let d = both _ _ (c .0) in
+    record {
+      first = leb-true _ _ (d .0);
+      last = leb-true _ _ (d .1);
+      narrow = leb-true _ _ (c .1);
+      room = leb-true _ _ (b .1);
+      decimals = leb-true _ _ (a .1);
+    }
 
 list-inside : (t : RecordType) (vs : List Value) (i : ℕ) (d : Value) → allInside t vs ≡ true → i < length vs → ValueInside t (getD vs i d)
 list-inside t [] i d e h = absurd (not-suc-le-zero h)

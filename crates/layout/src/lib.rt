@@ -3,32 +3,22 @@ ghost use mathlib.Core.Path.{_≡_};
 ghost use Prim.Native.Nat.{_+_, _*_, _≤_, _<_};
 ghost use lib.ListN.{length};
 ghost use Rattle.layout.specs.Lead.{leading, leadOf};
-ghost use Rattle.layout.specs.Layout.{codeOf, lengthOf, dateColumn, rowOf, countOf, typeAt, frontOf, lineOf, offsetOf, Held, valueCount, valueAt};
+ghost use Rattle.layout.specs.Layout.{within, typeDigits, lengthOf, dateColumn, rowOf, countOf, order, typeAt, frontOf, lineOf, offsetOf, reportLength, Held, valueCount, valueAt};
 
-// Every line has its type and its stack name; line 100 has the year and the quarter, digits only.
+// Every line has its type and its stack name.
 pub const TYPE_START: usize = 1;
 
 pub const TYPE_WIDTH: usize = 3;
 
 pub const STACK_START: usize = 4;
 
-pub const STACK_END: usize = 9;
+pub const STACK_WIDTH: usize = 6;
 
-pub const YEAR_START: usize = 10;
+// Date and hour, YYMMDDHH.
+pub const DATE_WIDTH: usize = 8;
 
-pub const YEAR_WIDTH: usize = 4;
-
-pub const YEAR_LEAST: u64 = 1995;
-
-pub const YEAR_MOST: u64 = 2094;
-
-pub const QUARTER_START: usize = 14;
-
-pub const QUARTER_WIDTH: usize = 1;
-
-pub const QUARTER_LEAST: u64 = 1;
-
-pub const QUARTER_MOST: u64 = 4;
+// No record has more values.
+pub const MOST_VALUES: usize = 4;
 
 // Line 100 and a 200 line: their length, and with byte 10; where the date of a 200 line starts.
 pub const FACILITY_LENGTH: usize = 14;
@@ -73,6 +63,30 @@ pub struct Value {
     pub most: u64,
 }
 
+// Line 100 has the year and the quarter, digits only.
+pub const YEAR: Value = Value {
+    start: 10,
+    width: 4,
+    decimals: 0,
+    least: 1995,
+    most: 2094,
+};
+
+pub const QUARTER: Value = Value {
+    start: 14,
+    width: 1,
+    decimals: 0,
+    least: 1,
+    most: 4,
+};
+
+// Whether a number lies in a value's range.
+pub fn within(v: Value, k: u64) -> bool
+    ensures { λ r. ⌜ r ≡ within v k ⌝ }
+{
+    (v.least <= k) & (k <= v.most)
+}
+
 // How many lines a report has.
 pub struct Shape {
     pub hours: usize,
@@ -96,9 +110,9 @@ struct Lead {
     hourly: Front,
 }
 
-// A type's code, the length of its line without byte 10, where date and hour start (0 where it has none), its run of lines, how many values it has.
+// A type's digits, the length of its line without byte 10, where date and hour start (0 where it has none), its run of lines, how many values it has.
 pub struct Row {
-    pub code: u64,
+    pub digits: [u8; TYPE_WIDTH],
     pub length: usize,
     pub date: usize,
     pub run: Run,
@@ -110,70 +124,70 @@ pub fn row_of(t: RecordType) -> Row
 {
     match t {
         RecordType::Facility => Row {
-            code: 100,
+            digits: [b'1', b'0', b'0'],
             length: FACILITY_LENGTH,
             date: 0,
             run: Run::Once,
             values: 0,
         },
         RecordType::So2Concentration => Row {
-            code: 200,
+            digits: [b'2', b'0', b'0'],
             length: SO2_LENGTH,
             date: SO2_DATE,
             run: Run::Hourly,
             values: 1,
         },
         RecordType::NoxConcentration => Row {
-            code: 201,
+            digits: [b'2', b'0', b'1'],
             length: 34,
             date: 16,
             run: Run::Hourly,
             values: 1,
         },
         RecordType::Co2Concentration => Row {
-            code: 202,
+            digits: [b'2', b'0', b'2'],
             length: 34,
             date: 16,
             run: Run::Hourly,
             values: 1,
         },
         RecordType::VolumetricFlow => Row {
-            code: 220,
+            digits: [b'2', b'2', b'0'],
             length: 48,
             date: 16,
             run: Run::Hourly,
             values: 1,
         },
         RecordType::Operation => Row {
-            code: 300,
+            digits: [b'3', b'0', b'0'],
             length: 42,
             date: 10,
             run: Run::Hourly,
             values: 2,
         },
         RecordType::QuarterTotals => Row {
-            code: 301,
+            digits: [b'3', b'0', b'1'],
             length: 48,
             date: 0,
             run: Run::Once,
             values: 4,
         },
         RecordType::So2Mass => Row {
-            code: 310,
+            digits: [b'3', b'1', b'0'],
             length: 34,
             date: 10,
             run: Run::Hourly,
             values: 1,
         },
         RecordType::NoxRate => Row {
-            code: 320,
+            digits: [b'3', b'2', b'0'],
             length: 54,
             date: 13,
             run: Run::Hourly,
             values: 2,
         },
         RecordType::Co2Mass => Row {
-            code: 330,
+            digits: [b'3', b'3', b'0'],
             length: 24,
             date: 10,
             run: Run::Hourly,
@@ -193,7 +207,12 @@ pub fn count_of(s: Shape, t: RecordType) -> usize
     }
 }
 
-const ORDER: [RecordType; 10] = [
+// How many types there are, and the place of the 200 lines among them.
+pub const TYPES: usize = 10;
+
+pub const SO2_PLACE: usize = 1;
+
+const ORDER: [RecordType; TYPES] = [
     RecordType::Facility,
     RecordType::So2Concentration,
     RecordType::NoxConcentration,
@@ -208,7 +227,7 @@ const ORDER: [RecordType; 10] = [
 
 // The types in the order of a report.
 pub fn type_at(place: usize) -> RecordType
-    requires { ⌜ place < 10 ⌝ }
+    requires { ⌜ place < length order ⌝ }
     ensures { λ r. ⌜ r ≡ typeAt place ⌝ }
 {
     ORDER[place]
@@ -279,6 +298,14 @@ pub fn offset_of(s: Shape, t: RecordType, k: usize) -> usize
     front_of(s, t).bytes + (row_of(t).length + 1) * k
 }
 
+// A report's length, in bytes: the last type ends it.
+pub fn report_length(s: Shape) -> usize
+    requires { ⌜ Held s ⌝ }
+    ensures { λ r. ⌜ (r ≡ reportLength s) × (r ≤ 10000000) ⌝ }
+{
+    offset_of(s, RecordType::Co2Mass, s.hours)
+}
+
 const NO_VALUE: Value = Value {
     start: 0,
     width: 0,
@@ -287,7 +314,7 @@ const NO_VALUE: Value = Value {
     most: 0,
 };
 
-const SO2_PPM: Value = Value {
+pub const SO2_PPM: Value = Value {
     start: 35,
     width: 6,
     decimals: 1,
@@ -295,7 +322,7 @@ const SO2_PPM: Value = Value {
     most: 99999,
 };
 
-const NOX_PPM: Value = Value {
+pub const NOX_PPM: Value = Value {
     start: 29,
     width: 6,
     decimals: 1,
@@ -303,7 +330,7 @@ const NOX_PPM: Value = Value {
     most: 99999,
 };
 
-const CO2_PERCENT: Value = Value {
+pub const CO2_PERCENT: Value = Value {
     start: 29,
     width: 6,
     decimals: 1,
@@ -311,7 +338,7 @@ const CO2_PERCENT: Value = Value {
     most: 1000,
 };
 
-const FLOW_SCFH: Value = Value {
+pub const FLOW_SCFH: Value = Value {
     start: 39,
     width: 10,
     decimals: 0,
@@ -319,7 +346,7 @@ const FLOW_SCFH: Value = Value {
     most: 500000000,
 };
 
-const TIME_HOURS: Value = Value {
+pub const TIME_HOURS: Value = Value {
     start: 18,
     width: 4,
     decimals: 2,
@@ -327,7 +354,7 @@ const TIME_HOURS: Value = Value {
     most: 100,
 };
 
-const HEAT_RATE: Value = Value {
+pub const HEAT_RATE: Value = Value {
     start: 36,
     width: 7,
     decimals: 1,
@@ -367,7 +394,7 @@ const NOX_MEAN: Value = Value {
     most: 99999,
 };
 
-const SO2_RATE: Value = Value {
+pub const SO2_RATE: Value = Value {
     start: 25,
     width: 7,
     decimals: 1,
@@ -375,7 +402,7 @@ const SO2_RATE: Value = Value {
     most: 999999,
 };
 
-const F_FACTOR: Value = Value {
+pub const F_FACTOR: Value = Value {
     start: 26,
     width: 10,
     decimals: 1,
@@ -383,7 +410,7 @@ const F_FACTOR: Value = Value {
     most: 30000,
 };
 
-const NOX_RATE: Value = Value {
+pub const NOX_RATE: Value = Value {
     start: 36,
     width: 6,
     decimals: 3,
@@ -391,7 +418,7 @@ const NOX_RATE: Value = Value {
     most: 99999,
 };
 
-const CO2_RATE: Value = Value {
+pub const CO2_RATE: Value = Value {
     start: 18,
     width: 7,
     decimals: 1,
@@ -438,10 +465,12 @@ pub fn value_at(t: RecordType, i: usize) -> Value
 }
 
 // One column of the row each.
-pub fn type_code(t: RecordType) -> u64
-    ensures { λ r. ⌜ r ≡ codeOf t ⌝ }
+
+// The three bytes of a type.
+pub fn type_digits(t: RecordType) -> [u8; TYPE_WIDTH]
+    ensures { λ r. ⌜ r ≡ typeDigits t ⌝ }
 {
-    row_of(t).code
+    row_of(t).digits
 }
 
 // The length of a line without its byte 10.

@@ -7,9 +7,10 @@ use native.Mathlib.Omega.{arith}
 use native.Mathlib.Numerals.{add-one}
 use lib.ListN.{length, take, drop, set, getD, replicate, length-replicate, replicate-append-replicate, drop-of-length-le}
 use lib.Seq.{drop-cons, take-suc-set}
-use Rattle.writer.specs.Refusals.{refusalOf, reportBytes}
+use Rattle.layout.specs.Layout.{reportLength}
+use Rattle.writer.specs.Refusals.{refusalOf}
 use Rattle.writer.specs.RefusalLaws.{not-refused}
-use Rattle.writer.specs.Sheet.{hourCount}
+use Rattle.sheet.specs.Sheet.{shapeOf}
 use Rattle.writer.specs.Written.{answered}
 use Rattle.writer.specs.declared.Written.{Written}
 use Rattle.writer.specs.declared.Written.the-variants.{Length, Refused}
@@ -44,7 +45,7 @@ unfolding answered
 answer-fits year quarter name sheet room written e = rw e (go (refusalOf year quarter name sheet room) refl)
   where
     go : (k : ℕ) → refusalOf year quarter name sheet room ≡ k
-        → lastOf (elim k [ zero ↦ Length (reportBytes (hourCount sheet)) | suc c ↦ Refused (suc c) ]) 0 ≤ room
+        → lastOf (elim k [ zero ↦ Length (reportLength (shapeOf sheet)) | suc c ↦ Refused (suc c) ]) 0 ≤ room
     go zero e = not-refused year quarter name sheet room e .1
     go (suc c) e = omega arith
 

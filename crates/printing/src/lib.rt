@@ -25,8 +25,8 @@ fn print_number(line: &mut [u8], column: usize, value: u64) -> usize
     ensures { λ r. ⌜ (r ≡ column + length (spaced value)) × (r ≤ column + 21) × (now (line .exit) ≡ put column (spaced value) (now (line .entry))) ⌝ }
 {
     let count = digit_count(value);
-    columns::write_bytes(line, column, b" ");
-    columns::write_digits(line, column + 1, count, value);
+    filling::write_bytes(line, column, b" ");
+    filling::write_digits(line, column + 1, count, value);
     column + 1 + count
 }
 
@@ -35,14 +35,14 @@ pub fn print_line(word: &[u8], numbers: &[u64], line: &mut [u8]) -> usize
     requires { ⌜ LineRoom (now word) (now numbers) (now line) ⌝ }
     ensures { λ r. ⌜ (r ≡ length (lineOf (now (word .entry)) (now (numbers .entry)))) × (r ≤ longestLine) × (now (line .exit) ≡ put 1 (lineOf (now (word .entry)) (now (numbers .entry))) (now (line .entry))) ⌝ }
 {
-    columns::write_bytes(line, 1, word);
+    filling::write_bytes(line, 1, word);
     let mut column = 1 + word.len();
     let mut i = 0;
     while i < numbers.len() {
         column = print_number(line, column, numbers[i]);
         i += 1;
     }
-    columns::write_bytes(line, column, b"\n");
+    filling::write_bytes(line, column, b"\n");
     column
 }
 

@@ -1,8 +1,4 @@
 -- Laws that the proofs of this crate's functions share.
-pub mod Chains
-pub mod Shapes
-pub mod Values
-pub mod Hours
 pub mod Runs
 pub mod Walking
 pub mod Rising

@@ -1,5 +1,4 @@
 -- The lines that are due behind the 200 lines: type by type, and rank by rank.
--- Assumes nothing.
 use Prim.Native.Nat.{ℕ, zero, suc, _+_, _*_, _-_, _≤_, _<_}
 use mathlib.Core.Path.{_≡_, refl, sym, ap, _∙_}
 use mathlib.Core.List.{List, [], _∷_, _++_, map}
@@ -10,16 +9,15 @@ use native.Mathlib.Numerals.{add-one}
 use lib.ListN.{length, take, drop, getD, length-append, length-map, drop-of-length-le, List·getD-append, List·getD-map}
 use lib.Seq.{drop-cons, getD-append-seam}
 use Rattle.columns.specs.Columns.{columns}
-use Rattle.layout.specs.Layout.{recordOf, lengthOf, dateColumn, rowOf, linesOf, countOf, shape}
+use Rattle.layout.specs.Layout.{recordOf, lengthOf, dateColumn, dateWidth, rowOf, order, typeAt, linesOf, countOf, shape}
 use Rattle.layout.specs.declared.RecordType.{RecordType}
 use Rattle.layout.specs.declared.RecordType.the-variants.{Facility, So2Concentration}
 use Rattle.layout.specs.declared.Run.{Run}
 use Rattle.layout.specs.declared.Run.the-variants.{Once, Hourly}
 use Rattle.layout.specs.declared.Row.{Row}
-use Rattle.reading.specs.Lines.{lines}
-use Rattle.reading.specs.LineFaults.{Due}
-use Rattle.reading.specs.Reading.{laterTypes, dueOf, datesOf, runOf, runsOf}
-use Rattle.reading.specs.Places.{hourStart, dateIn, datesIn, laterType, dateFor, dateDue}
+use Rattle.lines.specs.LineFaults.{Due, dueOf}
+use Rattle.reading.specs.Reading.{datesOf, runOf, runsOf}
+use Rattle.reading.specs.Places.{hourStart, dateIn, datesIn, dateFor, dateDue}
 
 -- the dates of the 200 lines
 
@@ -83,19 +81,19 @@ module _ (t : RecordType) {r : Row} {run : Run} (e : r ≡ rowOf t) (f : r .run 
 abbrev pub dateFrom : ℕ → ℕ
 dateFrom k = hourStart 0 + dateColumn So2Concentration - 1 + (lengthOf So2Concentration + 1) * k
 
-pub date-part : (file : List ℕ) (k : ℕ) → dateIn file k ≡ take (dateFrom k + 8 - dateFrom k) (drop (dateFrom k) file)
+pub date-part : (file : List ℕ) (k : ℕ) → dateIn file k ≡ take (dateFrom k + dateWidth - dateFrom k) (drop (dateFrom k) file)
 unfolding columns
 date-part file k =
     let here : hourStart k + dateColumn So2Concentration - 1 ≡ dateFrom k = omega arith in
-    rw (here, add-sub-cancel-left (dateFrom k) 8)
+    rw (here, add-sub-cancel-left (dateFrom k) dateWidth)
 
 -- the types that follow
 
 module _ (place : ℕ) (dates : List (List ℕ)) where
-  pub runs-one : place < 8 → runsOf (drop place laterTypes) dates ≡ runOf (laterType place) dates ++ runsOf (drop (place + 1) laterTypes) dates
+  pub runs-one : place < length order → runsOf (drop place order) dates ≡ runOf (typeAt place) dates ++ runsOf (drop (place + 1) order) dates
   unfolding runsOf
-  runs-one h = rw (add-one place) (ap (λ (ts : List RecordType). runsOf ts dates) (drop-cons laterTypes place Facility h))
+  runs-one h = rw (add-one place) (ap (λ (ts : List RecordType). runsOf ts dates) (drop-cons order place Facility h))
 
-  pub runs-end : 8 ≤ place → runsOf (drop place laterTypes) dates ≡ []
+  pub runs-end : length order ≤ place → runsOf (drop place order) dates ≡ []
   unfolding runsOf
-  runs-end h = rw (drop-of-length-le laterTypes h)
+  runs-end h = rw (drop-of-length-le order h)

@@ -1,28 +1,23 @@
 -- The start of a reading: the last byte of the file and its facility line.
--- Assumes nothing.
 use Prim.Native.Nat.{ℕ, suc, _+_, _-_, _≤_, _<_}
-use mathlib.Core.Path.{_≡_, refl, sym, ap, _∙_}
+use mathlib.Core.Path.{_≡_, refl, sym, ap, subst, _∙_}
 use mathlib.Core.List.{List, [], _∷_}
-use mathlib.Core.Bool.{Bool, true, false, not, _&&_}
 use native.Mathlib.Omega.{arith}
-use lib.Dec.{leb}
 use lib.ListN.{length, drop, getD}
-use borrow.Author.Tests.{eq-eqb, ne-eqb, leb-true}
+use borrow.Author.Tests.{eq-eqb, ne-eqb}
 use Rattle.calendar.specs.Calendar.{IsQuarter}
-use Rattle.columns.specs.Bytes.{isBlank, all}
-use Rattle.columns.specs.Number.{numberOf}
-use Rattle.columns.specs.declared.Field.{Field}
-use Rattle.columns.specs.declared.Field.the-variants.{Blank, Malformed, Number}
-use Rattle.layout.specs.Layout.{lengthOf}
+use Rattle.layout.specs.Layout.{lengthOf, quarterDigit, Within}
 use Rattle.layout.specs.declared.RecordType.the-variants.{Facility}
-use Rattle.reading.specs.Lines.{firstLine, lines, last}
-use Rattle.reading.specs.LineLaws.{lines-at}
-use Rattle.reading.specs.LineFaults.{unless, shapeFault, stackOf, numberWithin, yearField, quarterField, quarterOn, facilityFault}
+use Rattle.lines.specs.Lines.{firstLine, lines, last}
+use Rattle.lines.specs.LineLaws.{lines-at, line-at, line-part}
+use Rattle.lines.specs.LineFaults.{periodOn, facilityFault, facilityLine}
+use Rattle.lines.specs.FaultLaws.{shape-length, facility-shape, facility-quarter, facility-said}
+use Rattle.lines.specs.declared.Period.{Period}
+use Rattle.lines.specs.declared.FacilityLine.{FacilityLine}
+use Rattle.lines.specs.declared.FacilityLine.the-variants.{Of, Faulty}
 use Rattle.reading.specs.Reading.{refusedAt, walkHours, walk, readOf}
 use Rattle.reading.specs.Places.{facilityOf, hourStart}
-use Rattle.reading.proofs.Chains.{or-none, last-none}
-use Rattle.reading.proofs.Shapes.{shape-right, line-known, line-room}
-use Rattle.reading.proofs.Walking.{found, passed}
+use Rattle.reading.specs.declared.Reading.{Reading}
 
 last-at : (l : List ℕ) → 0 < length l → last l ≡ getD l (length l - 1) 0
 unfolding last
@@ -37,18 +32,6 @@ unfolding readOf last
 read-empty [] h = refl
 read-empty (b ∷ bs) h = absurd (omega arith)
 
--- a quarter that is no fault
-within : (f : Field) → unless (numberWithin 1 4 f) 6 ≡ 0 → IsQuarter (numberOf f)
-unfolding numberWithin numberOf
-within Blank e = absurd (omega arith)
-within Malformed e = absurd (omega arith)
-within (Number k) e = go (leb 1 k) (leb k 4) refl refl e
-  where
-    go : (a b : Bool) → leb 1 k ≡ a → leb k 4 ≡ b → unless (a && b) 6 ≡ 0 → IsQuarter k
-    go true true p q e = record { least = leb-true 1 k p; most = leb-true k 4 q }
-    go true false p q e = absurd (omega arith)
-    go false b p q e = absurd (omega arith)
-
 module _ (l : List ℕ) (h : 0 < length l) where
   pub read-open : (getD l (length l - 1) 0 ≡ 10 → ⊥) → readOf l ≡ refusedAt 1 0
   unfolding readOf
@@ -58,29 +41,35 @@ module _ (l : List ℕ) (h : 0 < length l) where
   unfolding readOf
   read-ended e = rw (last-at l h, eq-eqb (getD l (length l - 1) 0) 10 e, readOf)
 
-  module _ (f : ℕ) (e : f ≡ facilityFault (firstLine l)) where
-    pub walk-found : (f ≡ 0 → ⊥) → walk (lines l) ≡ refusedAt f 1
-    unfolding walk
-    walk-found n = ap walk (lines-at l 0 h) ∙ found f _ 1 _ e n
+  -- what line 100 decides
+  abbrev after : FacilityLine → Reading
+  after f = elim f [ Of period ↦ walkHours (firstLine l) period 2 0 [] (lines (drop (0 + (length (firstLine l) + 1)) l)) | Faulty number ↦ refusedAt number 1 ]
 
-    module _ (z : f ≡ 0) where
-      fine : shapeFault Facility (firstLine l) ≡ 0
-      unfolding facilityFault
-      fine = or-none _ _ (sym e ∙ z)
+  started : walk (lines l) ≡ after (facilityLine (firstLine l))
+  unfolding walk
+  started = ap walk (lines-at l 0 h)
 
-      pub facility-room : lengthOf Facility ≤ length l
-      facility-room = line-room Facility l fine 14 refl
+  pub walk-found : (number : ℕ) → facilityLine (firstLine l) ≡ Faulty number → refusedAt number 1 ≡ walk (lines l)
+  walk-found number e = sym (started ∙ ap after e)
 
-      pub walk-passed : walk (lines l) ≡ walkHours (facilityOf l) 2 0 [] (lines (drop (hourStart 0) l))
-      unfolding walk
-      walk-passed =
-          ap walk (lines-at l 0 h) ∙ passed f _ 1 _ e z
-          ∙ ap (λ (m : ℕ). walkHours (firstLine l) 2 0 [] (lines (drop (0 + (m + 1)) l))) (shape-right Facility (firstLine l) fine)
-          ∙ ap (λ (line : List ℕ). walkHours line 2 0 [] (lines (drop (hourStart 0) l))) (line-known Facility l fine 14 refl)
+  module _ (period : Period) (e : facilityLine (firstLine l) ≡ Of period) where
+    said : (facilityFault (firstLine l) ≡ 0) × (periodOn (firstLine l) ≡ period)
+    said = facility-said (firstLine l) period e
 
-      valid : IsQuarter (quarterOn (firstLine l))
-      unfolding facilityFault quarterOn
-      valid = within (quarterField (firstLine l)) (last-none (shapeFault Facility (firstLine l)) (unless (not (all isBlank (stackOf (firstLine l)))) 5) (unless (numberWithin 1995 2094 (yearField (firstLine l))) 6) _ (sym e ∙ z))
+    long : length (firstLine l) ≡ lengthOf Facility
+    long = shape-length Facility (firstLine l) (facility-shape (firstLine l) (said .0))
 
-      pub facility-quarter : IsQuarter (quarterOn (facilityOf l))
-      facility-quarter = rw (← line-known Facility l fine 14 refl) valid
+    pub facility-room : lengthOf Facility ≤ length l
+    facility-room = omega (arith, long, line-part l)
+
+    pub walk-passed : walkHours (facilityOf l) period 2 0 [] (lines (drop (hourStart 0) l)) ≡ walk (lines l)
+    walk-passed =
+        let k : firstLine l ≡ facilityOf l = line-at l 0 (lengthOf Facility) long in
+        sym (started ∙ ap after e
+        ∙ ap (λ (m : ℕ). walkHours (firstLine l) period 2 0 [] (lines (drop (0 + (m + 1)) l))) long
+        ∙ ap (λ (line : List ℕ). walkHours line period 2 0 [] (lines (drop (hourStart 0) l))) k)
+
+    pub quarter-named : IsQuarter (period .quarter)
+    quarter-named =
+        let w = subst (λ (p : Period). Within quarterDigit (p .quarter)) (said .1) (facility-quarter (firstLine l) (said .0)) in
+        record { least = w .least; most = w .most }

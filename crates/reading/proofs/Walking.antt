@@ -1,23 +1,22 @@
 -- The walk over the lines that are due, one line further: what is left from here is what the whole is.
--- Assumes nothing.
 use Prim.Native.Nat.{ℕ, zero, suc, _+_, _*_, _-_, _≤_, _<_}
 use mathlib.Core.Path.{_≡_, refl, sym, ap, _∙_}
 use mathlib.Core.List.{List, [], _∷_, _++_}
 use native.Mathlib.Omega.{arith}
 use lib.ListN.{length, take, drop, length-drop, drop-of-length-le}
 use lib.Seq.{take-all}
-use Rattle.layout.specs.Layout.{lengthOf, countOf, shape}
+use Rattle.layout.specs.Layout.{lengthOf, order, typeAt, countOf, shape}
 use Rattle.layout.specs.declared.RecordType.{RecordType}
-use Rattle.reading.specs.Lines.{firstLine, lines}
-use Rattle.reading.specs.LineLaws.{lines-at}
-use Rattle.reading.specs.LineFaults.{Due, dueFault}
-use Rattle.reading.specs.Reading.{refusedAt, laterTypes, dueOf, runOf, runsOf, reportOf, walkDue, walkLater}
-use Rattle.reading.specs.Places.{facilityOf, datesIn, Counted, laterType, dateDue, hourStart}
+use Rattle.lines.specs.Lines.{firstLine, lines}
+use Rattle.lines.specs.LineLaws.{lines-at, line-part}
+use Rattle.lines.specs.LineFaults.{Due, dueOf, dueFault}
+use Rattle.lines.specs.FaultLaws.{shape-length, due-shape}
+use Rattle.lines.specs.declared.Period.{Period}
+use Rattle.reading.specs.Reading.{refusedAt, runOf, runsOf, reportOf, walkDue, walkLater}
+use Rattle.reading.specs.Places.{facilityOf, datesIn, Counted, dateDue, hourStart}
 use Rattle.reading.specs.declared.Report.{Report}
 use Rattle.reading.specs.declared.Reading.{Reading}
 use Rattle.reading.specs.declared.Reading.the-variants.{Clean}
-use Rattle.reading.proofs.Chains.{or-none}
-use Rattle.reading.proofs.Shapes.{shape-right, line-within}
 use Rattle.reading.proofs.Runs.{run-one, run-end, runs-one, runs-end}
 
 -- a part of a file to its end
@@ -60,77 +59,79 @@ module _ (report : Report) (facility : List ℕ) (line : ℕ) (file : List ℕ) 
     unfolding walkDue
     due-found n = ap (walkDue report facility line (d ∷ ds)) (lines-at file at h) ∙ found f _ line _ e n
 
-    due-shape : f ≡ 0 → length (firstLine (drop at file)) ≡ lengthOf (d .type)
-    unfolding dueFault
-    due-shape z = shape-right (d .type) (firstLine (drop at file)) (or-none _ _ (sym e ∙ z))
+    due-long : f ≡ 0 → length (firstLine (drop at file)) ≡ lengthOf (d .type)
+    due-long z = shape-length (d .type) (firstLine (drop at file)) (due-shape facility d (firstLine (drop at file)) (sym e ∙ z))
 
     pub due-next : f ≡ 0 → (long : ℕ) → long ≡ lengthOf (d .type) →
         walkDue report facility (line + 1) ds (lines (drop (at + (long + 1)) file)) ≡ walkDue report facility line (d ∷ ds) (lines (drop at file))
     unfolding walkDue
     due-next z long l =
         sym (ap (walkDue report facility line (d ∷ ds)) (lines-at file at h) ∙ passed f _ line _ e z
-        ∙ ap (λ (m : ℕ). walkDue report facility (line + 1) ds (lines (drop (at + (m + 1)) file))) (due-shape z ∙ sym l))
+        ∙ ap (λ (m : ℕ). walkDue report facility (line + 1) ds (lines (drop (at + (m + 1)) file))) (due-long z ∙ sym l))
 
     pub due-room : f ≡ 0 → at + lengthOf (d .type) ≤ length file
-    due-room z = omega (arith, due-shape z, line-within (drop at file), length-drop at file)
+    due-room z = omega (arith, due-long z, line-part (drop at file), length-drop at file)
 
 -- what the lines behind n 200 lines come to
-abbrev pub laterWhole : List ℕ → ℕ → Reading
-laterWhole file n = walkLater (facilityOf file) (2 + n) (datesIn file n) (lines (drop (hourStart n) file))
+abbrev pub laterWhole : List ℕ → Period → ℕ → Reading
+laterWhole file period n = walkLater (facilityOf file) period (2 + n) (datesIn file n) (lines (drop (hourStart n) file))
 
-abbrev reportIn : List ℕ → ℕ → Report
-reportIn file n = reportOf (facilityOf file) (datesIn file n)
+abbrev reportIn : List ℕ → Period → ℕ → Report
+reportIn file period n = reportOf period (datesIn file n)
 
 -- the walk behind n 200 lines stands at `at`, on line `line`, with these lines still due
-pub record Walked (file : List ℕ) (n at line : ℕ) (due : List Due) : Type 0 where
+pub record Walked (file : List ℕ) (period : Period) (n at line : ℕ) (due : List Due) : Type 0 where
   pub room : at ≤ length file + 1
   pub most : line ≤ at
-  pub left : walkDue (reportIn file n) (facilityOf file) line due (lines (drop at file)) ≡ laterWhole file n
+  pub left : walkDue (reportIn file period n) (facilityOf file) line due (lines (drop at file)) ≡ laterWhole file period n
 
-module _ (file : List ℕ) (n : ℕ) where
-  pub walked-start : Counted file n → Walked file n (hourStart n) (2 + n) (runsOf (drop 0 laterTypes) (datesIn file n))
+module _ (file : List ℕ) (period : Period) (n : ℕ) where
+  pub walked-start : Counted file n → Walked file period n (hourStart n) (2 + n) (runsOf (drop 2 order) (datesIn file n))
   unfolding walkLater
   walked-start h = record { room = omega arith; most = omega arith; left = refl }
 
   module _ (at line : ℕ) where
     -- the type at a place is next
-    pub walked-type : (place : ℕ) (t : RecordType) → place < 8 → t ≡ laterType place → Walked file n at line (runsOf (drop place laterTypes) (datesIn file n)) →
-        Walked file n at line (drop 0 (runOf t (datesIn file n)) ++ runsOf (drop (place + 1) laterTypes) (datesIn file n))
+    pub walked-type : (place : ℕ) (t : RecordType) → place < length order → t ≡ typeAt place →
+        Walked file period n at line (runsOf (drop place order) (datesIn file n)) →
+        Walked file period n at line (drop 0 (runOf t (datesIn file n)) ++ runsOf (drop (place + 1) order) (datesIn file n))
     walked-type place t h e w = rw (e, ← runs-one place (datesIn file n) h) w
 
-    pub walked-over : (place : ℕ) → 8 ≤ place → at < length file → Walked file n at line (runsOf (drop place laterTypes) (datesIn file n)) →
-        refusedAt 2 line ≡ laterWhole file n
+    pub walked-over : (place : ℕ) → length order ≤ place → at < length file → Walked file period n at line (runsOf (drop place order) (datesIn file n)) →
+        refusedAt 2 line ≡ laterWhole file period n
     walked-over place h k w =
-        sym (due-over (reportIn file n) (facilityOf file) line file at k) ∙ rw (← runs-end place (datesIn file n) h) (w .left)
+        sym (due-over (reportIn file period n) (facilityOf file) line file at k) ∙ rw (← runs-end place (datesIn file n) h) (w .left)
 
-    pub walked-clean : (place : ℕ) → 8 ≤ place → length file ≤ at → Walked file n at line (runsOf (drop place laterTypes) (datesIn file n)) →
-        Clean (reportIn file n) ≡ laterWhole file n
+    pub walked-clean : (place : ℕ) → length order ≤ place → length file ≤ at → Walked file period n at line (runsOf (drop place order) (datesIn file n)) →
+        Clean (reportIn file period n) ≡ laterWhole file period n
     walked-clean place h k w =
-        sym (due-clean (reportIn file n) (facilityOf file) line file at k) ∙ rw (← runs-end place (datesIn file n) h) (w .left)
+        sym (due-clean (reportIn file period n) (facilityOf file) line file at k) ∙ rw (← runs-end place (datesIn file n) h) (w .left)
 
-    module _ (t : RecordType) (k : ℕ) (ds : List Due) (w : Walked file n at line (drop k (runOf t (datesIn file n)) ++ ds)) where
-      pub walked-run : countOf (shape n) t ≤ k → Walked file n at line ds
+    module _ (t : RecordType) (k : ℕ) (ds : List Due) (w : Walked file period n at line (drop k (runOf t (datesIn file n)) ++ ds)) where
+      pub walked-run : countOf (shape n) t ≤ k → Walked file period n at line ds
       walked-run h = rw (run-end file n t k h) at w
 
       -- the line of rank k is due
-      next : k < countOf (shape n) t → Walked file n at line (dueOf t (dateDue file t k) ∷ (drop (k + 1) (runOf t (datesIn file n)) ++ ds))
+      next : k < countOf (shape n) t → Walked file period n at line (dueOf t (dateDue file t k) ∷ (drop (k + 1) (runOf t (datesIn file n)) ++ ds))
       next h = rw (run-one file n t k h) at w
 
-      pub walked-missing : k < countOf (shape n) t → length file ≤ at → refusedAt 10 line ≡ laterWhole file n
-      walked-missing h p = sym (due-missing (reportIn file n) (facilityOf file) line file at _ _ p) ∙ next h .left
+      pub walked-missing : k < countOf (shape n) t → length file ≤ at → refusedAt 10 line ≡ laterWhole file period n
+      walked-missing h p = sym (due-missing (reportIn file period n) (facilityOf file) line file at _ _ p) ∙ next h .left
 
-      module _ (h : k < countOf (shape n) t) (p : at < length file) (f : ℕ) (e : f ≡ dueFault (facilityOf file) (dueOf t (dateDue file t k)) (firstLine (drop at file))) where
-        pub walked-found : (f ≡ 0 → ⊥) → refusedAt f line ≡ laterWhole file n
-        walked-found m = sym (due-found (reportIn file n) (facilityOf file) line file at p _ _ f e m) ∙ next h .left
+      module _ (h : k < countOf (shape n) t) (p : at < length file) (f : ℕ)
+          (e : f ≡ dueFault (facilityOf file) (dueOf t (dateDue file t k)) (firstLine (drop at file))) where
+        pub walked-found : (f ≡ 0 → ⊥) → refusedAt f line ≡ laterWhole file period n
+        walked-found m = sym (due-found (reportIn file period n) (facilityOf file) line file at p _ _ f e m) ∙ next h .left
 
         pub walked-room : f ≡ 0 → at + lengthOf t ≤ length file
-        walked-room z = due-room (reportIn file n) (facilityOf file) line file at p (dueOf t (dateDue file t k)) [] f e z
+        walked-room z = due-room (reportIn file period n) (facilityOf file) line file at p (dueOf t (dateDue file t k)) [] f e z
 
-        pub walked-next : f ≡ 0 → (long : ℕ) → long ≡ lengthOf t → Walked file n (at + (long + 1)) (line + 1) (drop (k + 1) (runOf t (datesIn file n)) ++ ds)
+        pub walked-next : f ≡ 0 → (long : ℕ) → long ≡ lengthOf t →
+            Walked file period n (at + (long + 1)) (line + 1) (drop (k + 1) (runOf t (datesIn file n)) ++ ds)
         walked-next z long l =
             let b = walked-room z in
             record {
               room = omega arith;
               most = omega (arith, w .most);
-              left = due-next (reportIn file n) (facilityOf file) line file at p _ _ f e z long l ∙ next h .left;
+              left = due-next (reportIn file period n) (facilityOf file) line file at p _ _ f e z long l ∙ next h .left;
             }

@@ -1,24 +1,29 @@
 -- What a file whose lines are right is like: its length, and where each of its lines stands.
--- Assumes nothing.
 use Prim.Native.Nat.{ℕ, zero, suc, _+_, _*_, _≤_, _<_}
 use mathlib.Core.Path.{_≡_, refl, sym, ap, _∙_}
 use mathlib.Core.List.{List, [], _∷_, _++_, map}
-use mathlib.Core.Bool.{Bool, true, false}
+use mathlib.Core.Bool.{Bool, true, false, cond}
 use native.Mathlib.Omega.{arith}
 use native.Mathlib.Decide.{decLt}
 use native.Mathlib.Nat.{not-suc-le-zero, le-of-suc-le-suc}
+use lib.Dec.{eqb}
+use borrow.Author.Tests.{eqb-true}
+use Rattle.exact.specs.Sums.{totalOf}
 use lib.ListN.{length, take, drop, drop-of-length-le}
-use Rattle.layout.specs.Layout.{lengthOf, dateColumn, valuesOf, recordOf, linesOf, countOf, shape}
+use Rattle.layout.specs.Layout.{codeOf, lengthOf, valuesOf, recordOf, linesOf, order, placeOf, earlier, countOf, bytesOf, offsetOf, shape}
+use Rattle.layout.specs.LayoutLaws.{in-order}
+use Rattle.layout.specs.PlaceLaws.{front-bytes}
+use Rattle.layout.specs.TypeLaws.{code-tells}
 use Rattle.layout.specs.declared.RecordType.{RecordType}
 use Rattle.layout.specs.declared.Run.{Run}
 use Rattle.layout.specs.declared.Shape.{Shape}
 use Rattle.layout.specs.declared.Run.the-variants.{Once, Hourly}
-use Rattle.reading.specs.Lines.{firstLine, lines, last}
-use Rattle.reading.specs.LineLaws.{lines-at, line-at}
-use Rattle.reading.specs.LineFaults.{_orElse_, typeIs, shapeFault, stackFault, dateFault, valuesFault, Due, dueFault}
-use Rattle.reading.specs.FaultLaws.{or-zero, shape-type, shape-length}
-use Rattle.reading.specs.EndLaws.{line-within}
-use Rattle.reading.specs.Reading.{refusedAt, dueOf, datesOf, runOf, runsOf, walkDue}
+use Rattle.lines.specs.Lines.{firstLine, lines, last}
+use Rattle.lines.specs.LineLaws.{lines-at, line-at}
+use Rattle.lines.specs.LineFaults.{typeIs, valuesFault, Due, dueOf, dueFault}
+use Rattle.lines.specs.FaultLaws.{shape-type, shape-length, due-shape, due-values}
+use Rattle.lines.specs.EndLaws.{line-within}
+use Rattle.reading.specs.Reading.{refusedAt, datesOf, runOf, runsOf, walkDue}
 use Rattle.reading.specs.declared.Report.{Report}
 use Rattle.reading.specs.declared.Reading.{Reading}
 use Rattle.reading.specs.declared.Reading.the-variants.{Clean, Refused}
@@ -45,20 +50,6 @@ due-clean report facility line (d ∷ ds) (l ∷ ls) r e = go (dueFault facility
         (walkDue report facility (line + 1) ds ls ≡ Clean r → (report ≡ r) × Matches facility ds ls) → (report ≡ r) × ((dueFault facility d l ≡ 0) × Matches facility ds ls)
     go zero k w ih = let m = ih w in (m .0, (k, m .1))
     go (suc c) k w ih = never-clean (suc c) line r w
-
-due-type : (facility : List ℕ) (d : Due) (l : List ℕ) → dueFault facility d l ≡ 0 → typeIs (d .type) l ≡ true
-unfolding dueFault
-due-type facility d l e = shape-type (d .type) l (or-zero (shapeFault (d .type) l) _ e .0)
-
-due-length : (facility : List ℕ) (d : Due) (l : List ℕ) → dueFault facility d l ≡ 0 → length l ≡ lengthOf (d .type)
-unfolding dueFault
-due-length facility d l e = shape-length (d .type) l (or-zero (shapeFault (d .type) l) _ e .0)
-
-due-values : (facility : List ℕ) (d : Due) (l : List ℕ) → dueFault facility d l ≡ 0 → valuesFault (valuesOf (d .type)) l ≡ 0
-unfolding dueFault
-due-values facility d l e =
-    or-zero (dateFault (dateColumn (d .type)) (d .date) l) _
-    (or-zero (stackFault facility l) _ (or-zero (shapeFault (d .type) l) _ e .1) .1) .1
 
 -- the dates of a type's lines
 abbrev datesFor : RecordType → List (List ℕ) → List (List ℕ)
@@ -90,10 +81,11 @@ module _ (file : List ℕ) (ends : last file ≡ 10) (facility : List ℕ) where
           absurd (rw (drop-of-length-le file k) at m)
       go (yes h) =
           let n = rw (lines-at file at h) at m in
-          let e = due-length facility (dueOf t date) (firstLine (drop at file)) (n .0) in
+          let f = due-shape facility (dueOf t date) (firstLine (drop at file)) (n .0) in
+          let e = shape-length t (firstLine (drop at file)) f in
           let l = line-at file at (lengthOf t) e in (
             record {
-              type = rw l at (due-type facility (dueOf t date) (firstLine (drop at file)) (n .0));
+              type = rw l at (shape-type t (firstLine (drop at file)) f);
               next = rw (e, l) at (lines-at file at h);
               values = rw l at (due-values facility (dueOf t date) (firstLine (drop at file)) (n .0));
             },
@@ -140,3 +132,36 @@ module _ (file : List ℕ) (ends : last file ≡ 10) (facility : List ℕ) where
       let r = run-right t (datesFor t dates) (runsOf ts dates) at b m in
       let c = count-is t dates in
       (rw c at (r .0), runs-right ts dates (at + (lengthOf t + 1) * countOf (shape (length dates)) t) (rw c at (r .2)) (rw c at (r .1)))
+
+  -- they end where the file does
+  pub runs-size : (ts : List RecordType) (s : Shape) (at : ℕ) → RunsRight ts s at → at + totalOf (bytesOf s) ts ≡ length file
+  unfolding RunsRight totalOf
+  runs-size [] s at r = omega arith
+  runs-size (t ∷ ts) s at r = omega (arith, runs-size ts s (at + bytesOf s t) (r .1))
+
+  -- each line of a type that is one of them stands behind the types before it
+  runs-line : (t : RecordType) (ts : List RecordType) (s : Shape) (at : ℕ) → placeOf (codeOf t) ts < length ts → RunsRight ts s at → (k : ℕ) → k < countOf s t →
+      LineRight t (at + totalOf (bytesOf s) (take (placeOf (codeOf t) ts) ts) + (lengthOf t + 1) * k)
+  unfolding RunsRight totalOf
+  runs-line t [] s at h r k b = absurd (not-suc-le-zero h)
+  runs-line t (u ∷ us) s at h r k b = go (eqb (codeOf u) (codeOf t)) refl h (r .0) (λ g. runs-line t us s (at + bytesOf s u) g (r .1) k b)
+    where
+      place : ℕ
+      place = placeOf (codeOf t) us
+
+      go : (q : Bool) → eqb (codeOf u) (codeOf t) ≡ q → cond q 0 (suc place) < length (u ∷ us) →
+          ((j : ℕ) → j < countOf s u → LineRight u (at + (lengthOf u + 1) * j)) →
+          (place < length us → LineRight t (at + bytesOf s u + totalOf (bytesOf s) (take place us) + (lengthOf t + 1) * k)) →
+          LineRight t (at + totalOf (bytesOf s) (take (cond q 0 (suc place)) (u ∷ us)) + (lengthOf t + 1) * k)
+      go true e g f i =
+          let same = code-tells u t (eqb-true (codeOf u) (codeOf t) e) in
+          let z : at + 0 ≡ at = omega arith in
+          rw z ((rw same at f) k b)
+      go false e g f i =
+          let z : at + bytesOf s u + totalOf (bytesOf s) (take place us) ≡ at + (bytesOf s u + totalOf (bytesOf s) (take place us)) = omega arith in
+          rw (← z) (i (le-of-suc-le-suc g))
+
+  pub order-line : (s : Shape) → RunsRight order s 0 → (t : RecordType) (k : ℕ) → k < countOf s t → LineRight t (offsetOf s t k)
+  order-line s r t k b =
+      let z : 0 + totalOf (bytesOf s) (earlier t) + (lengthOf t + 1) * k ≡ offsetOf s t k = omega (arith, front-bytes s t) in
+      rw z at (runs-line t order s 0 (in-order t .0) r k b)

@@ -1,8 +1,3 @@
-pub mod Lines
-pub mod LineLaws
-pub mod LineFaults
-pub mod FaultLaws
-pub mod EndLaws
 pub mod Reading
 pub mod Recorded
 pub mod Places

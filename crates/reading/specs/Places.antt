@@ -1,43 +1,17 @@
 -- Where the reading of a file finds what it has read before: the facility line, and the dates of the 200 lines so far. What the
 -- functions that read lines may rely on stands here too.
--- Assumes nothing.
-use Prim.Native.Nat.{ℕ, zero, suc, _+_, _*_, _-_, _≤_, _<_}
+use Prim.Native.Nat.{ℕ, zero, suc, _+_, _≤_}
 use mathlib.Core.Path.{_≡_}
 use mathlib.Core.List.{List, [], _∷_, _++_}
-use mathlib.Core.Bool.{Bool, _&&_}
-use lib.Dec.{eqb}
-use lib.ListN.{length, take, drop, getD}
-use Rattle.columns.specs.Bytes.{isPrintable, all}
+use lib.ListN.{length, take, drop}
 use Rattle.columns.specs.Columns.{columns}
-use Rattle.calendar.specs.Calendar.{IsQuarter}
-use Rattle.layout.specs.Layout.{recordOf, lengthOf, dateColumn, countOf, lineOf, offsetOf, reportLength, Held, shape}
+use Rattle.layout.specs.Layout.{recordOf, lengthOf, dateColumn, dateWidth, countOf, lineOf, offsetOf, reportLength, Held, shape}
 use Rattle.layout.specs.declared.RecordType.{RecordType}
 use Rattle.layout.specs.declared.RecordType.the-variants.{Facility, So2Concentration}
 use Rattle.layout.specs.declared.Run.{Run}
 use Rattle.layout.specs.declared.Run.the-variants.{Once, Hourly}
 use Rattle.layout.specs.declared.Shape.{Shape}
-use Rattle.layout.specs.declared.Value.{Value}
-use Rattle.reading.specs.LineFaults.{yearOn, quarterOn}
-use Rattle.reading.specs.Reading.{laterTypes}
 use Rattle.reading.specs.Recorded.{Line, recordsOf}
-
--- what is left begins with so many printable bytes and byte 10
-unfoldable pub isLine : ℕ → List ℕ → Bool
-isLine long bs = eqb (getD bs long 0) 10 && all isPrintable (take long bs)
-
--- a value has columns of its own on a line of this length
-pub record Placed (v : Value) (long : ℕ) : Type 0 where
-  pub first : 1 ≤ v .start
-  pub last : v .start - 1 + v .width ≤ long
-  pub decimals : v .decimals < v .width
-  pub width : v .width ≤ 18
-
--- year and quarter as a facility line without fault has them
-pub record Heads (facility : List ℕ) (y q : ℕ) : Type 0 where
-  pub long : lengthOf Facility ≤ length facility
-  pub year : y ≡ yearOn facility
-  pub quarter : q ≡ quarterOn facility
-  pub valid : IsQuarter q
 
 abbrev pub facilityOf : List ℕ → List ℕ
 facilityOf file = take (lengthOf Facility) file
@@ -48,7 +22,7 @@ hourStart r = offsetOf (shape r) So2Concentration r
 
 -- its date and hour
 abbrev pub dateIn : List ℕ → ℕ → List ℕ
-dateIn file r = columns (hourStart r + dateColumn So2Concentration) 8 file
+dateIn file r = columns (hourStart r + dateColumn So2Concentration) dateWidth file
 
 -- of the first n
 unfoldable pub datesIn : List ℕ → ℕ → List (List ℕ)
@@ -59,10 +33,6 @@ datesIn file (suc n) = datesIn file n ++ (dateIn file n ∷ [])
 pub record Counted (file : List ℕ) (n : ℕ) : Type 0 where
   pub most : n ≤ 2208
   pub room : hourStart n ≤ length file + 1
-
--- the later types by their place
-abbrev pub laterType : ℕ → RecordType
-laterType place = getD laterTypes place Facility
 
 -- the date and hour that the line of rank k of a type must have
 abbrev pub dateFor : Run → List ℕ → ℕ → List ℕ

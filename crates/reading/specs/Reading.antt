@@ -1,19 +1,21 @@
--- What the line checks answer to a file: the first fault with its line, or the report's year, quarter and operating hours.
--- Assumes nothing.
+-- What the line checks answer to a file: the first fault with its line, or the report's year, quarter and counts.
 use Prim.Native.Nat.{ℕ, zero, suc, _+_}
 use mathlib.Core.List.{List, [], _∷_, _++_, map}
 use mathlib.Core.Bool.{true, false}
 use lib.Dec.{eqb}
 use lib.ListN.{length}
-use Rattle.calendar.specs.declared.QuarterHour.{QuarterHour}
-use Rattle.calendar.specs.declared.QuarterHour.the-variants.{At, Outside}
-use Rattle.layout.specs.Layout.{recordOf, later}
+use Rattle.layout.specs.Layout.{recordOf, later, shape}
 use Rattle.layout.specs.declared.RecordType.{RecordType}
 use Rattle.layout.specs.declared.RecordType.the-variants.{So2Concentration}
 use Rattle.layout.specs.declared.Run.{Run}
 use Rattle.layout.specs.declared.Run.the-variants.{Once, Hourly}
-use Rattle.reading.specs.Lines.{lines, last}
-use Rattle.reading.specs.LineFaults.{typeIs, yearOn, quarterOn, facilityFault, dateOn, hourOn, hourFault, Due, dueFault}
+use Rattle.lines.specs.Lines.{lines, last}
+use Rattle.lines.specs.LineFaults.{typeIs, facilityLine, dateOn, hourLine, Due, dueOf, dueFault}
+use Rattle.lines.specs.declared.Period.{Period}
+use Rattle.lines.specs.declared.FacilityLine.{FacilityLine}
+use Rattle.lines.specs.declared.FacilityLine.the-variants.{Of, Faulty as FaultyFacility}
+use Rattle.lines.specs.declared.HourLine.{HourLine}
+use Rattle.lines.specs.declared.HourLine.the-variants.{At, Faulty as FaultyHour}
 use Rattle.reading.specs.declared.Report.{Report}
 use Rattle.reading.specs.declared.Refusal.{Refusal}
 use Rattle.reading.specs.declared.Reading.{Reading}
@@ -27,9 +29,6 @@ refusedAt number line = Refused (record { number = number; line = line })
 abbrev pub laterTypes : List RecordType
 laterTypes = later So2Concentration
 
-abbrev pub dueOf : RecordType → List ℕ → Due
-dueOf t date = record { type = t; date = date }
-
 -- one line for each date, or one line that has none
 abbrev pub datesOf : Run → List (List ℕ) → List (List ℕ)
 datesOf Once dates = [] ∷ []
@@ -42,8 +41,8 @@ unfoldable pub runsOf : List RecordType → List (List ℕ) → List Due
 runsOf [] dates = []
 runsOf (t ∷ ts) dates = runOf t dates ++ runsOf ts dates
 
-abbrev pub reportOf : List ℕ → List (List ℕ) → Report
-reportOf facility dates = record { year = yearOn facility; quarter = quarterOn facility; hours = length dates }
+abbrev pub reportOf : Period → List (List ℕ) → Report
+reportOf period dates = record { period = period; shape = shape (length dates) }
 
 -- the lines from `line` on against those that are due
 unfoldable pub walkDue : Report → List ℕ → ℕ → List Due → List (List ℕ) → Reading
@@ -54,27 +53,25 @@ walkDue report facility line (d ∷ ds) (l ∷ ls) =
     elim (dueFault facility d l) [ zero ↦ walkDue report facility (line + 1) ds ls | suc c ↦ refusedAt (suc c) line ]
 
 -- after the last 200 line
-unfoldable pub walkLater : List ℕ → ℕ → List (List ℕ) → List (List ℕ) → Reading
-walkLater facility line dates ls = walkDue (reportOf facility dates) facility line (runsOf laterTypes dates) ls
-
--- the first hour that may follow
-unfoldable pub hourAfter : QuarterHour → ℕ
-hourAfter Outside = 0
-hourAfter (At hour) = hour + 1
+unfoldable pub walkLater : List ℕ → Period → ℕ → List (List ℕ) → List (List ℕ) → Reading
+walkLater facility period line dates ls = walkDue (reportOf period dates) facility line (runsOf laterTypes dates) ls
 
 -- the lines from `line` on, after 200 lines of these dates; the next hour of the quarter is at least `from`
-unfoldable pub walkHours : List ℕ → ℕ → ℕ → List (List ℕ) → List (List ℕ) → Reading
-walkHours facility line from dates [] = walkLater facility line dates []
-walkHours facility line from dates (l ∷ ls) =
+unfoldable pub walkHours : List ℕ → Period → ℕ → ℕ → List (List ℕ) → List (List ℕ) → Reading
+walkHours facility period line from dates [] = walkLater facility period line dates []
+walkHours facility period line from dates (l ∷ ls) =
     elim (typeIs So2Concentration l) [
-      | false ↦ walkLater facility line dates (l ∷ ls)
+      | false ↦ walkLater facility period line dates (l ∷ ls)
       | true ↦
-          elim (hourFault facility from l) [ zero ↦ walkHours facility (line + 1) (hourAfter (hourOn facility l)) (dates ++ (dateOn l ∷ [])) ls | suc c ↦ refusedAt (suc c) line ]
+          elim (hourLine facility period from l) [
+            | At hour ↦ walkHours facility period (line + 1) (hour + 1) (dates ++ (dateOn l ∷ [])) ls
+            | FaultyHour number ↦ refusedAt number line
+          ]
     ]
 
 unfoldable pub walk : List (List ℕ) → Reading
 walk [] = refusedAt 10 1
-walk (l ∷ ls) = elim (facilityFault l) [ zero ↦ walkHours l 2 0 [] ls | suc c ↦ refusedAt (suc c) 1 ]
+walk (l ∷ ls) = elim (facilityLine l) [ Of period ↦ walkHours l period 2 0 [] ls | FaultyFacility number ↦ refusedAt number 1 ]
 
 unfoldable pub readOf : List ℕ → Reading
 readOf file = elim (eqb (last file) 10) [ true ↦ walk (lines file) | false ↦ refusedAt 1 0 ]

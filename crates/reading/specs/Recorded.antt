@@ -1,5 +1,4 @@
 -- What the lines of a report say: the records of each type in file order, each with its line, and the hours and totals recorded on them.
--- Assumes nothing.
 use Prim.Native.Nat.{ℕ, zero, suc}
 use mathlib.Core.List.{List, [], _∷_}
 use mathlib.Core.Bool.{Bool, true, false}
@@ -10,8 +9,8 @@ use Rattle.layout.specs.declared.RecordType.{RecordType}
 use Rattle.layout.specs.declared.RecordType.the-variants.{So2Concentration, NoxConcentration, Co2Concentration, VolumetricFlow, Operation, QuarterTotals, So2Mass, NoxRate, Co2Mass}
 use Rattle.formulas.specs.declared.hour.Hour.{Hour}
 use Rattle.totals.specs.declared.Quarter.{Quarter}
-use Rattle.reading.specs.Lines.{lines}
-use Rattle.reading.specs.LineFaults.{typeIs, fieldIn}
+use Rattle.lines.specs.Lines.{lines}
+use Rattle.lines.specs.LineFaults.{typeIs, fieldIn}
 
 -- a line of a file: its place among the lines, from 1, and its columns
 pub record Line : Type 0 where

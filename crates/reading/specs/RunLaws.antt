@@ -1,22 +1,26 @@
--- The records of lines that come in runs, each of one type: the lines of that type's runs.
--- Assumes nothing.
+-- The records of lines that come in runs, each of one type: the lines of that type's run.
 use Prim.Native.Nat.{ℕ, zero, suc, _+_, _<_}
 use mathlib.Core.Path.{_≡_, refl, sym, ap, _∙_}
-use mathlib.Core.List.{List, [], _∷_, _++_}
-use mathlib.Core.Bool.{Bool, true, false}
+use mathlib.Core.List.{List, [], _∷_, _++_, append-nil}
+use mathlib.Core.Bool.{Bool, true, false, cond, not}
 use native.Mathlib.Omega.{arith}
 use native.Mathlib.Nat.{le-of-suc-le-suc, not-suc-le-zero}
-use lib.ListN.{length, take, getD}
-use Rattle.columns.specs.Bytes.{same}
-use Rattle.columns.specs.BytesLaws.{same-eq}
-use Rattle.columns.specs.Written.{digitsOf}
-use Rattle.layout.specs.Layout.{codeOf}
+use native.Mathlib.Numerals.{add-one}
+use lib.Dec.{eqb}
+use lib.ListN.{length, take, drop, getD}
+use borrow.Author.Tests.{eqb-true}
+use Rattle.exact.specs.Sums.{totalOf}
+use Rattle.layout.specs.Layout.{codeOf, order, placeOf, rankOf, earlier}
+use Rattle.layout.specs.LayoutLaws.{both, in-order}
+use Rattle.layout.specs.TypeLaws.{code-tells, absent, only-once}
 use Rattle.layout.specs.declared.RecordType.{RecordType}
-use Rattle.reading.specs.LineFaults.{typeIs}
+use Rattle.lines.specs.LineFaults.{typeIs}
+use Rattle.lines.specs.FaultLaws.{type-same}
 use Rattle.reading.specs.Recorded.{Line, linesWith}
 use Rattle.reading.specs.Places.{numbered}
 
-pub record Run : Type 0 where
+-- lines of one type that follow each other
+pub record LineRun : Type 0 where
   pub type : RecordType
   pub texts : List (List ℕ)
 
@@ -24,59 +28,112 @@ abbrev pub AllOf : RecordType → List (List ℕ) → Type 0
 AllOf t [] = Unit {0}
 AllOf t (l ∷ ls) = (typeIs t l ≡ true) × AllOf t ls
 
-abbrev pub Typed : List Run → Type 0
+abbrev pub Typed : List LineRun → Type 0
 Typed [] = Unit {0}
 Typed (r ∷ rs) = AllOf (r .type) (r .texts) × Typed rs
 
-abbrev pub joined : List Run → List (List ℕ)
+abbrev pub joined : List LineRun → List (List ℕ)
 joined [] = []
 joined (r ∷ rs) = r .texts ++ joined rs
 
-abbrev pub sameType : RecordType → RecordType → Bool
-sameType u t = same (digitsOf 3 (codeOf u)) (digitsOf 3 (codeOf t))
-
 -- the lines of the type's own runs, with their numbers
-abbrev pub chosen : RecordType → ℕ → List Run → List Line
+abbrev chosen : RecordType → ℕ → List LineRun → List Line
 chosen t number [] = []
 chosen t number (r ∷ rs) =
-    elim (sameType (r .type) t) [
+    elim (eqb (codeOf (r .type)) (codeOf t)) [
       | true ↦ numbered number (r .texts) ++ chosen t (number + length (r .texts)) rs
       | false ↦ chosen t (number + length (r .texts)) rs
     ]
 
 module _ (u t : RecordType) where
-  type-same : (line : List ℕ) → typeIs u line ≡ true → typeIs t line ≡ sameType u t
-  unfolding typeIs
-  type-same line e = rw (same-eq (take 3 line) (digitsOf 3 (codeOf u)) .0 e)
-
-  own-run : sameType u t ≡ true → (ls rest : List (List ℕ)) (number : ℕ) → AllOf u ls → linesWith (typeIs t) number (ls ++ rest) ≡ numbered number ls ++ linesWith (typeIs t) (number + length ls) rest
+  own-run : eqb (codeOf u) (codeOf t) ≡ true → (ls rest : List (List ℕ)) (number : ℕ) → AllOf u ls →
+      linesWith (typeIs t) number (ls ++ rest) ≡ numbered number ls ++ linesWith (typeIs t) (number + length ls) rest
   unfolding linesWith numbered
   own-run s [] rest number a = let z : number + 0 ≡ number = omega arith in rw z
   own-run s (l ∷ ls) rest number a =
       let z : suc number + length ls ≡ number + suc (length ls) = omega arith in
-      let e = type-same l (a .0) ∙ s in
+      let e = type-same u t l (a .0) ∙ s in
       rw (e, linesWith, own-run s ls rest (suc number) (a .1), z)
 
-  other-run : sameType u t ≡ false → (ls rest : List (List ℕ)) (number : ℕ) → AllOf u ls → linesWith (typeIs t) number (ls ++ rest) ≡ linesWith (typeIs t) (number + length ls) rest
+  other-run : eqb (codeOf u) (codeOf t) ≡ false → (ls rest : List (List ℕ)) (number : ℕ) → AllOf u ls →
+      linesWith (typeIs t) number (ls ++ rest) ≡ linesWith (typeIs t) (number + length ls) rest
   unfolding linesWith
   other-run s [] rest number a = let z : number + 0 ≡ number = omega arith in rw z
   other-run s (l ∷ ls) rest number a =
       let z : suc number + length ls ≡ number + suc (length ls) = omega arith in
-      let e = type-same l (a .0) ∙ s in
+      let e = type-same u t l (a .0) ∙ s in
       rw (e, linesWith, other-run s ls rest (suc number) (a .1), z)
 
-pub runs-chosen : (t : RecordType) (rs : List Run) (number : ℕ) → Typed rs → linesWith (typeIs t) number (joined rs) ≡ chosen t number rs
+runs-chosen : (t : RecordType) (rs : List LineRun) (number : ℕ) → Typed rs → linesWith (typeIs t) number (joined rs) ≡ chosen t number rs
 unfolding linesWith
 runs-chosen t [] number a = refl
-runs-chosen t (r ∷ rs) number a = go (sameType (r .type) t) refl (runs-chosen t rs (number + length (r .texts)) (a .1))
+runs-chosen t (r ∷ rs) number a = go (eqb (codeOf (r .type)) (codeOf t)) refl (runs-chosen t rs (number + length (r .texts)) (a .1))
   where
     rest : List Line
     rest = chosen t (number + length (r .texts)) rs
 
-    go : (b : Bool) → sameType (r .type) t ≡ b → linesWith (typeIs t) (number + length (r .texts)) (joined rs) ≡ rest →
+    go : (b : Bool) → eqb (codeOf (r .type)) (codeOf t) ≡ b → linesWith (typeIs t) (number + length (r .texts)) (joined rs) ≡ rest →
         linesWith (typeIs t) number (r .texts ++ joined rs) ≡ elim b [ true ↦ numbered number (r .texts) ++ rest | false ↦ rest ]
     go true s i = own-run (r .type) t s (r .texts) (joined rs) number (a .0) ∙ ap (λ (l : List Line). numbered number (r .texts) ++ l) i
     go false s i = other-run (r .type) t s (r .texts) (joined rs) number (a .0) ∙ i
+
+-- runs of these types from a place on; the texts of a type may hang on the place where they stand
+module _ (texts : ℕ → RecordType → List (List ℕ)) (count size : RecordType → ℕ) (counted : (at : ℕ) (t : RecordType) → length (texts at t) ≡ count t) where
+  abbrev pub runsFrom : List RecordType → ℕ → List LineRun
+  runsFrom [] at = []
+  runsFrom (t ∷ ts) at = record { type = t; texts = texts at t } ∷ runsFrom ts (at + size t)
+
+  none-chosen : (t : RecordType) (ts : List RecordType) (number at : ℕ) → absent (codeOf t) ts ≡ true → chosen t number (runsFrom ts at) ≡ []
+  none-chosen t [] number at e = refl
+  none-chosen t (u ∷ us) number at e =
+      let f = both (not (eqb (codeOf u) (codeOf t))) (absent (codeOf t) us) e in
+      go (eqb (codeOf u) (codeOf t)) (f .0) (none-chosen t us (number + length (texts at u)) (at + size u) (f .1))
+    where
+      rest : List Line
+      rest = chosen t (number + length (texts at u)) (runsFrom us (at + size u))
+
+      go : (b : Bool) → not b ≡ true → rest ≡ [] → _≡_ {A = List Line} (elim b [ true ↦ numbered number (texts at u) ++ rest | false ↦ rest ]) []
+      go true f i = absurd (let z : _≡_ {A = ℕ} 0 1 = cc in omega arith)
+      go false f i = i
+
+  -- a type that stands once among them
+  one-chosen : (t : RecordType) (ts : List RecordType) (number at : ℕ) → placeOf (codeOf t) ts < length ts →
+      absent (codeOf t) (drop (suc (placeOf (codeOf t) ts)) ts) ≡ true →
+      chosen t number (runsFrom ts at)
+      ≡ numbered (number + totalOf count (take (placeOf (codeOf t) ts) ts)) (texts (at + totalOf size (take (placeOf (codeOf t) ts) ts)) t)
+  unfolding totalOf
+  one-chosen t [] number at h n = absurd (not-suc-le-zero h)
+  one-chosen t (u ∷ us) number at h n = go (eqb (codeOf u) (codeOf t)) refl h n (one-chosen t us (number + length (texts at u)) (at + size u))
+    where
+      place : ℕ
+      place = placeOf (codeOf t) us
+
+      rest : List Line
+      rest = chosen t (number + length (texts at u)) (runsFrom us (at + size u))
+
+      go : (b : Bool) → eqb (codeOf u) (codeOf t) ≡ b → cond b 0 (suc place) < length (u ∷ us) →
+          absent (codeOf t) (drop (suc (cond b 0 (suc place))) (u ∷ us)) ≡ true →
+          (place < length us → absent (codeOf t) (drop (suc place) us) ≡ true →
+          rest ≡ numbered (number + length (texts at u) + totalOf count (take place us)) (texts (at + size u + totalOf size (take place us)) t)) →
+          elim b [ true ↦ numbered number (texts at u) ++ rest | false ↦ rest ]
+          ≡ numbered (number + totalOf count (take (cond b 0 (suc place)) (u ∷ us))) (texts (at + totalOf size (take (cond b 0 (suc place)) (u ∷ us))) t)
+      go true e k m i =
+          let s = code-tells u t (eqb-true (codeOf u) (codeOf t) e) in
+          let z : number + 0 ≡ number = omega arith in
+          let y : at + 0 ≡ at = omega arith in
+          rw (none-chosen t us (number + length (texts at u)) (at + size u) m, append-nil, z, y) (ap (λ v. numbered number (texts at v)) s)
+      go false e k m i =
+          let z : number + length (texts at u) + totalOf count (take place us) ≡ number + (count u + totalOf count (take place us)) =
+          omega (arith, counted at u) in
+          let y : at + size u + totalOf size (take place us) ≡ at + (size u + totalOf size (take place us)) = omega arith in
+          rw (← z, ← y) (i (le-of-suc-le-suc k) m)
+
+  -- of runs in the order of a report
+  pub order-chosen : (t : RecordType) (number at : ℕ) → Typed (runsFrom order at) →
+      linesWith (typeIs t) number (joined (runsFrom order at)) ≡ numbered (number + totalOf count (earlier t)) (texts (at + totalOf size (earlier t)) t)
+  order-chosen t number at a =
+      runs-chosen t (runsFrom order at) number a
+      ∙ one-chosen t order number at (in-order t .0) (rw (add-one (rankOf t)) at (only-once t))
 
 -- a numbered list: as many lines, each with its place
 pub numbered-length : (ls : List (List ℕ)) (number : ℕ) → length (numbered number ls) ≡ length ls
@@ -84,8 +141,11 @@ unfolding numbered
 numbered-length [] number = refl
 numbered-length (l ∷ ls) number = ap suc (numbered-length ls (suc number))
 
-pub numbered-at : (ls : List (List ℕ)) (none : Line) (k number : ℕ) → k < length ls → getD (numbered number ls) k none ≡ record { number = number + k; text = getD ls k [] }
+pub numbered-at : (ls : List (List ℕ)) (none : Line) (k number : ℕ) → k < length ls →
+    getD (numbered number ls) k none ≡ record { number = number + k; text = getD ls k [] }
 unfolding numbered
 numbered-at [] none k number h = absurd (not-suc-le-zero h)
 numbered-at (l ∷ ls) none zero number h = let z : number + 0 ≡ number = omega arith in rw z
-numbered-at (l ∷ ls) none (suc k) number h = let z : suc number + k ≡ number + suc k = omega arith in rw z at (numbered-at ls none k (suc number) (le-of-suc-le-suc h))
+numbered-at (l ∷ ls) none (suc k) number h =
+    let z : suc number + k ≡ number + suc k = omega arith in
+    rw z at (numbered-at ls none k (suc number) (le-of-suc-le-suc h))

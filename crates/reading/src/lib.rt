@@ -1,6 +1,4 @@
 // File and line checks of a quarterly report (refusals 1 to 10), and the recorded values of an operating hour.
-mod faults;
-mod lines;
 mod recorded;
 mod walk;
 
@@ -9,6 +7,8 @@ use formulas::hour::Hour;
 use formulas::hour::Readings;
 use layout::RecordType;
 use layout::Shape;
+use lines::FacilityLine;
+use lines::Period;
 use totals::Quarter;
 ghost use mathlib.Core.Path.{_≡_};
 ghost use Prim.Native.Nat.{_<_};
@@ -18,12 +18,11 @@ ghost use Rattle.reading.specs.Places.{Standing};
 
 // A report whose lines are right. Its operating hours are its 200 lines.
 pub struct Report {
-    pub year: u64,
-    pub quarter: u64,
-    pub hours: usize,
+    pub period: Period,
+    pub shape: Shape,
 }
 
-// 01's refusal: a number, and a line counted from 1, or 0 for the whole file.
+// A refusal of the paper's table: a number, and a line counted from 1, or 0 for the whole file.
 pub struct Refusal {
     pub number: u64,
     pub line: usize,
@@ -45,11 +44,11 @@ pub fn read(file: &[u8]) -> Reading
     if file[size - 1] != 10 {
         return walk::refused(1, 0);
     }
-    let fault = faults::facility_fault(file);
-    if fault != 0 {
-        return walk::refused(fault, 1);
+    let first = lines::facility_line(file);
+    match first {
+        FacilityLine::Faulty(number) => walk::refused(number, 1),
+        FacilityLine::Of(period) => walk::walk_hours(file, period),
     }
-    walk::walk_hours(file)
 }
 
 // Operating hour k, from 0, of a file of a shape whose lines are right.

@@ -1,5 +1,4 @@
 -- A date and hour as a record has it: the eight digits YYMMDDHH, YY being the year's last two.
--- Assumes nothing.
 use Prim.Native.Nat.{ℕ, _+_, _*_, _/_, _%_}
 use mathlib.Core.List.{List}
 use mathlib.Core.Bool.{cond}
@@ -8,6 +7,7 @@ use Rattle.columns.specs.Number.{digitsOnly}
 use Rattle.columns.specs.Written.{digitsOf}
 use Rattle.columns.specs.declared.Field.{Field}
 use Rattle.columns.specs.declared.Field.the-variants.{Blank, Malformed, Number}
+use Rattle.layout.specs.Layout.{dateWidth}
 use Rattle.calendar.specs.Calendar.{quarterHour, dateOfHour}
 use Rattle.calendar.specs.declared.Date.{Date}
 use Rattle.calendar.specs.declared.QuarterHour.{QuarterHour}
@@ -37,4 +37,4 @@ stampNumber year quarter hour = dateNumber year (dateOfHour year quarter hour)
 
 -- the eight columns of an hour of the quarter
 unfoldable pub stampOf : ℕ → ℕ → ℕ → List ℕ
-stampOf year quarter hour = digitsOf 8 (stampNumber year quarter hour)
+stampOf year quarter hour = digitsOf dateWidth (stampNumber year quarter hour)

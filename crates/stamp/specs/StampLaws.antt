@@ -1,4 +1,4 @@
--- An hour's stamp names the hour. Assumes nothing.
+-- An hour's stamp names the hour.
 use Prim.Native.Nat.{ℕ, _+_, _*_, _/_, _%_, _≤_, _<_, _^_}
 use mathlib.Core.Path.{_≡_, refl, ap, _∙_}
 use native.Mathlib.Omega.{arith}
@@ -13,17 +13,22 @@ use Rattle.columns.specs.Written.{digitsOf}
 use Rattle.columns.specs.WrittenLaws.{read-digits-written, digits-length, digits-printable}
 use Rattle.columns.specs.declared.Field.{Field}
 use Rattle.columns.specs.declared.Field.the-variants.{Blank, Malformed, Number}
+use Rattle.layout.specs.Layout.{dateWidth}
 use Rattle.calendar.specs.Calendar.{IsQuarter, hoursInQuarter, quarterHour, dateOfHour}
 use Rattle.calendar.specs.CalendarLaws.{TwoDigits, date-of-hour-two-digits, hour-at, at-hour-below}
 use Rattle.calendar.specs.declared.Date.{Date}
 use Rattle.calendar.specs.declared.QuarterHour.the-variants.{At, Outside}
 use Rattle.stamp.specs.Stamp.{numberDate, numberHour, fieldHour, stampHour, dateNumber, stampNumber, stampOf}
 
-pub stamp-length : (year quarter hour : ℕ) → length (stampOf year quarter hour) ≡ 8
+pub stamp-digits : (year quarter hour : ℕ) → digitsOf dateWidth (stampNumber year quarter hour) ≡ stampOf year quarter hour
 unfolding stampOf
-stamp-length year quarter hour = digits-length 8 (stampNumber year quarter hour)
+stamp-digits year quarter hour = refl
 
-pub number-below : (year : ℕ) (date : Date) → TwoDigits date → dateNumber year date < 10 ^ 8
+pub stamp-length : (year quarter hour : ℕ) → length (stampOf year quarter hour) ≡ dateWidth
+unfolding stampOf
+stamp-length year quarter hour = digits-length dateWidth (stampNumber year quarter hour)
+
+pub number-below : (year : ℕ) (date : Date) → TwoDigits date → dateNumber year date < 10 ^ dateWidth
 number-below year date t = omega arith
 
 number-date : (year : ℕ) (date : Date) → TwoDigits date → numberDate (dateNumber year date) ≡ date
@@ -40,7 +45,7 @@ module _ (year quarter : ℕ) (q : IsQuarter quarter) where
       let t = date-of-hour-two-digits year quarter q hour h in
       let date = dateOfHour year quarter hour in
       let y : dateNumber year date / 1_000_000 ≡ year % 100 = omega arith in
-      rw (read-digits-written 8 (dateNumber year date) (number-below year date t), eq-eqb _ _ y, number-date year date t) (hour-at year quarter hour h)
+      rw (read-digits-written dateWidth (dateNumber year date) (number-below year date t), eq-eqb _ _ y, number-date year date t) (hour-at year quarter hour h)
 
   number-hour-below : (v hour : ℕ) → numberHour year quarter v ≡ At hour → hour < 2208
   unfolding numberHour
@@ -62,4 +67,4 @@ module _ (year quarter : ℕ) (q : IsQuarter quarter) where
 
 pub stamp-printable : (year quarter hour : ℕ) → all isPrintable (stampOf year quarter hour) ≡ true
 unfolding stampOf
-stamp-printable year quarter hour = digits-printable 8 (stampNumber year quarter hour)
+stamp-printable year quarter hour = digits-printable dateWidth (stampNumber year quarter hour)

@@ -7,6 +7,7 @@ ghost use Prim.Native.Nat.{_<_};
 ghost use Rattle.calendar.specs.Calendar.{IsQuarter, hoursInQuarter};
 ghost use Rattle.calendar.specs.CalendarLaws.{TwoDigits};
 ghost use Rattle.columns.specs.Columns.{Inside, columns};
+ghost use Rattle.layout.specs.Layout.{dateWidth};
 ghost use Rattle.stamp.specs.Stamp.{numberHour, stampHour, dateNumber, stampNumber};
 
 // The hour of the quarter that a number of eight digits names.
@@ -30,11 +31,11 @@ fn hour_named(year: u64, quarter: u64, number: u64) -> QuarterHour
 
 // The hour of the quarter on a line, with its first column.
 pub fn read_stamp(line: &[u8], start: usize, year: u64, quarter: u64) -> QuarterHour
-    requires { ⌜ Inside start 8 (now line) ⌝ }
+    requires { ⌜ Inside start dateWidth (now line) ⌝ }
     requires { ⌜ IsQuarter quarter ⌝ }
-    ensures { λ r. ⌜ r ≡ stampHour year quarter (columns start 8 (now (line .entry))) ⌝ }
+    ensures { λ r. ⌜ r ≡ stampHour year quarter (columns start dateWidth (now (line .entry))) ⌝ }
 {
-    let field = columns::read_digits(line, start, 8);
+    let field = columns::read_digits(line, start, layout::DATE_WIDTH);
     match field {
         Field::Number(number) => hour_named(year, quarter, number),
         Field::Malformed => QuarterHour::Outside,

@@ -1,13 +1,14 @@
--- The two answers of the writer: a refusal, and the report's length. Assumes nothing.
+-- The two answers of the writer: a refusal, and the report's length.
 use Prim.Native.Nat.{ℕ, zero, suc, _+_, _-_}
 use mathlib.Core.Path.{_≡_, refl}
 use mathlib.Core.List.{List}
 use native.Mathlib.Omega.{arith}
 use lib.ListN.{length}
 use Rattle.columns.specs.Columns.{put}
-use Rattle.writer.specs.Sheet.{hourCount, hoursOf}
-use Rattle.writer.specs.SheetLaws.{hours-count}
-use Rattle.writer.specs.Refusals.{reportBytes, refusalOf}
+use Rattle.layout.specs.Layout.{stackWidth, reportLength}
+use Rattle.sheet.specs.Sheet.{shapeOf, hoursOf}
+use Rattle.sheet.specs.SheetLaws.{hours-count}
+use Rattle.writer.specs.Refusals.{refusalOf}
 use Rattle.writer.specs.Written.{report, answered, buffered}
 use Rattle.writer.specs.ReportLaws.{report-length}
 use Rattle.writer.specs.declared.Written.the-variants.{Length, Refused}
@@ -19,11 +20,11 @@ module _ (year quarter : ℕ) (name sheet buffer : List ℕ) where
   refused zero e h = absurd (h refl)
   refused (suc r) e h = (rw (← e, answered), rw (← e, buffered))
 
-  pub accepted : 0 ≡ refusalOf year quarter name sheet (length buffer) → length name ≡ 6
-      → (Length (reportBytes (hourCount sheet)) ≡ answered year quarter name sheet (length buffer))
+  pub accepted : 0 ≡ refusalOf year quarter name sheet (length buffer) → length name ≡ stackWidth
+      → (Length (reportLength (shapeOf sheet)) ≡ answered year quarter name sheet (length buffer))
       × (put 1 (report year quarter name (hoursOf sheet)) buffer ≡ buffered year quarter name sheet buffer)
   unfolding answered buffered put
-  accepted e six =
-      let n : 1 - 1 + length (report year quarter name (hoursOf sheet)) ≡ reportBytes (hourCount sheet) =
-      omega (arith, report-length year quarter name six (hoursOf sheet), hours-count sheet) in
+  accepted e named =
+      let n : 1 - 1 + length (report year quarter name (hoursOf sheet)) ≡ reportLength (shapeOf sheet) =
+      omega (arith, report-length year quarter name (hoursOf sheet) named (shapeOf sheet) (hours-count sheet)) in
       (rw (← e, answered), rw (← e, buffered, n))

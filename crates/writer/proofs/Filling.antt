@@ -1,5 +1,4 @@
 -- Lines written step by step: blanks one by one, values one by one, and a record with its byte 10 as a part of the buffer.
--- Assumes nothing.
 use Prim.Native.Nat.{ℕ, suc, _+_, _-_, _≤_, _<_}
 use mathlib.Core.Path.{_≡_, ap, _∙_}
 use mathlib.Core.List.{List, [], _∷_, _++_}
@@ -12,11 +11,10 @@ use borrow.Rule.Slice.PartMut.{putMid}
 use Rattle.columns.specs.Columns.{put}
 use Rattle.columns.specs.ColumnsLaws.{put-length, put-beside}
 use Rattle.columns.specs.Written.{written}
-use Rattle.layout.specs.Layout.{valueCount, valuesOf, valueAt, rangedValue}
-use Rattle.layout.specs.ValueLaws.{value-count, value-of}
+use Rattle.layout.specs.Layout.{valueCount, valuesOf, valueAt, mostValues, noValue}
+use Rattle.layout.specs.LayoutLaws.{values-most}
 use Rattle.layout.specs.declared.RecordType.{RecordType}
 use Rattle.writer.specs.Written.{valued, ended}
-use Rattle.writer.specs.LineLaws.{values-few}
 
 -- blanks up to place i, and one more
 pub blank-more : (l : List ℕ) (i : ℕ) → i < length l → take i l ≡ replicate i 32 → take (i + 1) (set l i 32) ≡ replicate (i + 1) 32
@@ -31,20 +29,18 @@ module _ (t : RecordType) (values : List ℕ) where
   abbrev pub valuesLeft : ℕ → List ℕ → List ℕ
   valuesLeft i line = valued (drop i (valuesOf t)) (drop i (take (valueCount t) values)) line
 
-  pub values-more : (i : ℕ) (line : List ℕ) → i < valueCount t
-      → length values ≡ 4 → valuesLeft (i + 1) (put (valueAt t i .start) (written (valueAt t i .width) (valueAt t i .decimals) (getD values i 0)) line) ≡ valuesLeft i line
+  pub values-more : (i : ℕ) (line : List ℕ) → i < valueCount t → length values ≡ mostValues
+      → valuesLeft (i + 1) (put (valueAt t i .start) (written (valueAt t i .width) (valueAt t i .decimals) (getD values i 0)) line) ≡ valuesLeft i line
   unfolding valued
-  values-more i line h four =
-      let n : length (take (valueCount t) values) ≡ valueCount t = length-take-le (valueCount t) values (omega (arith, values-few t)) in
+  values-more i line h most =
+      let n : length (take (valueCount t) values) ≡ valueCount t = length-take-le (valueCount t) values (omega (arith, values-most t)) in
       let a : i < length (take (valueCount t) values) = omega arith in
-      let b : i < length (valuesOf t) = omega (arith, value-count t) in
-      rw (add-one i, drop-cons (valuesOf t) i (rangedValue 0 0 0 0 0) b, drop-cons (take (valueCount t) values) i 0 a, value-of t i h, getD-take (valueCount t) values i 0 h)
+      rw (add-one i, drop-cons (valuesOf t) i noValue h, drop-cons (take (valueCount t) values) i 0 a, getD-take (valueCount t) values i 0 h)
 
   pub values-end : (i : ℕ) (line : List ℕ) → valueCount t ≤ i → valuesLeft i line ≡ line
   unfolding valued
   values-end i line h =
-      let b : length (valuesOf t) ≤ i = omega (arith, value-count t) in
-      rw (drop-of-length-le (valuesOf t) b)
+      rw (drop-of-length-le (valuesOf t) h)
 
 -- a record of known length and its byte 10, written into their part of the buffer
 module _ (at long : ℕ) (l bytes : List ℕ) (e : length bytes ≡ long) (room : at + long < length l) where

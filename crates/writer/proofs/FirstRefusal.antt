@@ -1,4 +1,4 @@
--- What the pass over the hours finds, and 34 after it, is what refusalOf gives. Assumes nothing.
+-- What the pass over the hours finds, and 34 after it, is what refusalOf gives.
 use Prim.Native.Nat.{ℕ, zero, suc, _%_, _≤_, _<_}
 use mathlib.Core.Path.{_≡_, refl, sym, _∙_}
 use mathlib.Core.List.{List}
@@ -8,8 +8,10 @@ use lib.Dec.{leb}
 use lib.ListN.{length}
 use borrow.Author.Tests.{eq-eqb, ne-eqb, le-leb, lt-leb}
 use Rattle.calendar.specs.Calendar.{hoursInQuarter}
-use Rattle.writer.specs.Sheet.{hourCount, hoursOf}
-use Rattle.writer.specs.Refusals.{every, headingHolds, kindsHold, hoursRise, sheetHolds, readingsHold, figuresFit, reportBytes, refusalOf}
+use Rattle.layout.specs.Layout.{reportLength}
+use Rattle.sheet.specs.Sheet.{hourWords, hourCount, shapeOf, hoursOf}
+use Rattle.sheet.specs.SheetTests.{every, headingHolds, kindsHold, hoursRise, sheetHolds, readingsHold}
+use Rattle.writer.specs.Refusals.{figuresFit, refusalOf}
 use Rattle.writer.specs.OnePass.{valuesRefusal, hoursRefusal, earlier, inOrder, refusalFrom}
 
 -- what the pass finds over all hours
@@ -22,32 +24,36 @@ withRoom zero fits = elim fits [ false ↦ 34 | true ↦ 0 ]
 withRoom (suc found) fits = suc found
 
 module _ (year quarter : ℕ) (name sheet : List ℕ) (room : ℕ) where
+  unshaped : sheetHolds year quarter name sheet ≡ false → 31 ≡ refusalOf year quarter name sheet room
+  unfolding refusalOf
+  unshaped e = rw (e, refusalOf)
+
   pub heading-wrong : headingHolds year quarter name ≡ false → 31 ≡ refusalOf year quarter name sheet room
-  unfolding refusalOf sheetHolds
-  heading-wrong e = rw (e, sheetHolds, refusalOf)
+  unfolding sheetHolds
+  heading-wrong e = unshaped (rw e)
 
-  pub words-wrong : headingHolds year quarter name ≡ true → (length sheet % 6 ≡ 0 → ⊥) → 31 ≡ refusalOf year quarter name sheet room
-  unfolding refusalOf sheetHolds
-  words-wrong e w = rw (e, ne-eqb _ _ w, sheetHolds, refusalOf)
+  pub words-wrong : headingHolds year quarter name ≡ true → (length sheet % hourWords ≡ 0 → ⊥) → 31 ≡ refusalOf year quarter name sheet room
+  unfolding sheetHolds
+  words-wrong e w = unshaped (rw (e, ne-eqb _ _ w))
 
-  module _ (e : headingHolds year quarter name ≡ true) (w : length sheet % 6 ≡ 0) where
+  module _ (e : headingHolds year quarter name ≡ true) (w : length sheet % hourWords ≡ 0) where
     shaped : sheetHolds year quarter name sheet ≡ (kindsHold sheet 0 (hourCount sheet) && hoursRise (hoursInQuarter year quarter) 0 (hoursOf sheet))
     unfolding sheetHolds
-    shaped = rw (e, eq-eqb _ _ w, sheetHolds) (go (kindsHold sheet 0 (hourCount sheet)) _)
-      where
-        go : (a b : Bool) → _≡_ {A = Bool} (elim a [ false ↦ false | true ↦ b ]) (a && b)
-        go true b = refl
-        go false b = refl
+    shaped = rw (e, eq-eqb _ _ w)
 
-    told : refusalOf year quarter name sheet room ≡ withRoom (passed year quarter sheet) (leb (reportBytes (hourCount sheet)) room)
+    told : refusalOf year quarter name sheet room ≡ withRoom (passed year quarter sheet) (leb (reportLength (shapeOf sheet)) room)
     unfolding refusalOf refusalFrom inOrder hoursRefusal hoursOf earlier withRoom
-    told = rw (shaped, refusalOf) (go (kindsHold sheet 0 (hourCount sheet)) (hoursRise (hoursInQuarter year quarter) 0 (hoursOf sheet)) (every readingsHold (hoursOf sheet)) (every figuresFit (hoursOf sheet)))
+    told =
+        rw (shaped, refusalOf)
+        (go (kindsHold sheet 0 (hourCount sheet)) (hoursRise (hoursInQuarter year quarter) 0 (hoursOf sheet)) (every readingsHold (hoursOf sheet))
+        (every figuresFit (hoursOf sheet)))
       where
         fits : Bool
-        fits = leb (reportBytes (hourCount sheet)) room
+        fits = leb (reportLength (shapeOf sheet)) room
 
         go : (a b c d : Bool) →
-            _≡_ {A = ℕ} (elim (a && b) [ false ↦ 31 | true ↦ elim c [ false ↦ 32 | true ↦ elim d [ false ↦ 33 | true ↦ elim fits [ false ↦ 34 | true ↦ 0 ] ] ] ])
+            _≡_ {A = ℕ}
+            (elim (a && b) [ false ↦ 31 | true ↦ elim c [ false ↦ 32 | true ↦ elim d [ false ↦ 33 | true ↦ elim fits [ false ↦ 34 | true ↦ 0 ] ] ] ])
             (withRoom (inOrder a b (valuesRefusal c d)) fits)
         go false b c d = refl
         go true false c d = refl
@@ -60,7 +66,7 @@ module _ (year quarter : ℕ) (name sheet : List ℕ) (room : ℕ) where
     found-told zero f h = absurd (h refl)
     found-told (suc found) f h = sym (told ∙ rw (← f))
 
-    module _ {bytes : ℕ} (f : passed year quarter sheet ≡ 0) (b : bytes ≡ reportBytes (hourCount sheet)) where
+    module _ {bytes : ℕ} (f : passed year quarter sheet ≡ 0) (b : bytes ≡ reportLength (shapeOf sheet)) where
       pub room-short : room < bytes → 34 ≡ refusalOf year quarter name sheet room
       unfolding withRoom
       room-short h = sym (told ∙ rw (f, lt-leb _ _ (rw b at h)))

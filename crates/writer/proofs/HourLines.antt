@@ -1,110 +1,209 @@
--- The lines of an hour and the runs that are left: an hour's lines, put among what is left of each run, leave the next hour's.
--- Assumes nothing.
-use Prim.Native.Nat.{ℕ, _+_, _-_, _*_, _≤_, _<_}
+-- Line 100, the hours' lines and line 301, put at their offsets, are the report: every line has the report's bytes, and every byte of the
+-- report lies in one of them.
+use Prim.Native.Nat.{ℕ, zero, suc, _+_, _≤_, _<_}
 use mathlib.Core.Path.{_≡_, refl, sym, ap, _∙_}
-use mathlib.Core.List.{List, [], _∷_}
+use mathlib.Core.List.{List, [], _∷_, _++_, map, append-assoc}
+use mathlib.Core.Logic.{_⊎_, inl, inr}
 use native.Mathlib.Omega.{arith}
-use native.Mathlib.Nat.{mul-add}
-use lib.ListN.{length}
+use native.Mathlib.Decide.{decLt}
+use native.Mathlib.Nat.{mul-le-mul-left}
+use native.Mathlib.Numerals.{add-one}
+use lib.ListN.{length, drop, getD, length-drop}
+use lib.Seq.{drop-append-le, drop-drop, ext-getD}
 use Rattle.columns.specs.Columns.{put}
-use Rattle.columns.specs.ColumnsLaws.{put-length, put-swap}
-use Rattle.layout.specs.Layout.{lengthOf, dateColumn, offsetOf, shape}
+use Rattle.columns.specs.ColumnsLaws.{put-length, put-behind}
+use Rattle.layout.specs.Layout.{recordOf, order, rankOf, hourly, keepHourly, lengthOf, stackWidth, countOf, bytesOf, frontOf, offsetOf, reportLength}
+use Rattle.layout.specs.LayoutLaws.{in-order}
+use Rattle.layout.specs.PlaceLaws.{line-inside}
+use Rattle.layout.specs.RunLaws.{once-type, in-run}
 use Rattle.stamp.specs.Stamp.{stampOf}
+use Rattle.totals.specs.Totals.{quarterTotals}
+use Rattle.layout.specs.declared.Run.{Run}
+use Rattle.layout.specs.declared.Run.the-variants.{Once, Hourly}
 use Rattle.layout.specs.declared.RecordType.{RecordType}
-use Rattle.layout.specs.declared.RecordType.the-variants.{So2Concentration, So2Mass}
-use Rattle.writer.specs.Sheet.{hourCount, hourAt, hoursFrom, hoursOf, recordedHour}
-use Rattle.writer.specs.SheetLaws.{hours-length, hours-count, hours-whole}
-use Rattle.writer.specs.Refusals.{reportBytes}
-use Rattle.writer.specs.Written.{ended, hourRecord, runOf, runsOf, firstTypes, lastTypes}
-use Rattle.writer.specs.HourLines.{hourTypes, hourLines}
-use Rattle.writer.specs.ReportLaws.{hour-line-length, run-length, first-length}
-use Rattle.writer.proofs.Runs.{runLeft, run-more, run-end, first-runs, last-runs}
+use Rattle.layout.specs.declared.RecordType.the-variants.{Facility, QuarterTotals}
+use Rattle.layout.specs.declared.Shape.{Shape}
+use Rattle.sheet.specs.declared.SheetHour.{SheetHour}
+use Rattle.writer.specs.Recorded.{recordedHour, recordedHours}
+use Rattle.writer.specs.Written.{ended, facilityRecord, hourRecord, totalsRecord, recordsOf, report}
+use Rattle.writer.specs.HourLines.{hourLines, hoursLines}
+use Rattle.writer.specs.LineLaws.{facility-length, hour-length, totals-length}
+use Rattle.writer.specs.ReportLaws.{ended-length, hour-records, behindRecord, record-place, report-length}
+use Rattle.writer.proofs.Puts.{Own, Right, unknown, put-fills, put-keeps}
 
--- the lines of hour k of these types lie in the report, at or behind this place
-abbrev Behind : (n k at : ℕ) → List RecordType → Type 0
-Behind n k at [] = Unit {0}
-Behind n k at (t ∷ ts) = (at ≤ offsetOf (shape n) t k) × (offsetOf (shape n) t k + lengthOf t < reportBytes n) × Behind n k at ts
+-- the k-th of some records, by what follows from it on
+mapped-at : {A : Type 0} (f : A → List ℕ) (xs : List A) (k : ℕ) (a : A) (rest : List A) → drop k xs ≡ a ∷ rest → getD (map f xs) k [] ≡ f a
+mapped-at f [] zero a rest e = cc
+mapped-at f [] (suc k) a rest e = cc
+mapped-at f (b ∷ bs) zero a rest e = cc
+mapped-at f (b ∷ bs) (suc k) a rest e = mapped-at f bs k a rest e
 
--- the run of each of these types ends in front of the lines of hour k of the types after it
-abbrev Ordered : (n k : ℕ) → List RecordType → Type 0
-Ordered n k [] = Unit {0}
-Ordered n k (t ∷ ts) =
-    (1 ≤ dateColumn t) × (offsetOf (shape n) t k + lengthOf t < reportBytes n) × (offsetOf (shape n) t n ≤ reportBytes n) × Behind n k (offsetOf (shape n) t n) ts × Ordered n k ts
+drop-next : {A : Type 0} (xs : List A) (k : ℕ) (a : A) (rest : List A) → drop k xs ≡ a ∷ rest → drop (k + 1) xs ≡ rest
+drop-next xs k a rest e = sym (drop-drop 1 k xs) ∙ ap (drop 1) e
 
-pub types-ordered : (n k : ℕ) → k < n → Ordered n k hourTypes
-types-ordered n k h = (omega arith, omega arith, omega arith, omega arith, (omega arith, omega arith, omega arith, omega arith, (omega arith, omega arith, omega arith, omega arith, (omega arith, omega arith, omega arith, omega arith, (omega arith, omega arith, omega arith, omega arith, (omega arith, omega arith, omega arith, omega arith, (omega arith, omega arith, omega arith, omega arith, (omega arith, omega arith, omega arith, omega arith, tt))))))))
+module _ (year quarter : ℕ) (name : List ℕ) (named : length name ≡ stackWidth) (hours : List SheetHour) (s : Shape) (count : length hours ≡ s .hours)
+    (before : List ℕ) (room : reportLength s ≤ length before) where
+  abbrev text : List ℕ
+  text = report year quarter name hours
 
--- hour k's lines
-module _ (year quarter : ℕ) (name sheet : List ℕ) (n k : ℕ) where
-  abbrev pub linesAt : List RecordType → List ℕ → List ℕ
-  linesAt ts buffer = hourLines name n k (stampOf year quarter (hourAt sheet k .hour)) (recordedHour (hourAt sheet k)) ts buffer
+  abbrev whole : List ℕ
+  whole = put 1 text before
 
-  abbrev lineAt : RecordType → List ℕ
-  lineAt t = ended (hourRecord year quarter name t (hourAt sheet k))
+  text-long : length text ≡ reportLength s
+  text-long = report-length year quarter name hours named s count
 
-  module _ (six : length name ≡ 6) where
-    line-kept : (t : RecordType) (buffer : List ℕ) → offsetOf (shape n) t k + lengthOf t < reportBytes n → reportBytes n ≤ length buffer → length (put (offsetOf (shape n) t k + 1) (lineAt t) buffer) ≡ length buffer
-    line-kept t buffer i room =
-        put-length (offsetOf (shape n) t k + 1) (lineAt t) buffer (omega (arith, hour-line-length year quarter name six t (hourAt sheet k)))
+  whole-long : length whole ≡ length before
+  whole-long = put-length 1 text before (omega (arith, text-long))
 
-    -- bytes in front of them may be put before or after
-    lines-behind : (ts : List RecordType) (at : ℕ) (xs buffer : List ℕ) → Behind n k (at + length xs) ts → reportBytes n ≤ length buffer
-        → put (at + 1) xs (linesAt ts buffer) ≡ linesAt ts (put (at + 1) xs buffer)
-    unfolding hourLines hourRecord
-    lines-behind [] at xs buffer b room = refl
-    lines-behind (t ∷ ts) at xs buffer b room =
-        let e = line-kept t buffer (b .1) room in
-        lines-behind ts at xs (put (offsetOf (shape n) t k + 1) (lineAt t) buffer) (b .2) (omega arith)
-        ∙ ap (linesAt ts) (put-swap (at + 1) (offsetOf (shape n) t k + 1) xs (lineAt t) buffer (omega (arith, b .0)) (omega (arith, b .1)))
+  -- a line of the report
+  own-line : (t : RecordType) (k : ℕ) (line : List ℕ) → k < countOf s t → getD (recordsOf year quarter name hours t) k [] ≡ line → length line ≡ lengthOf t
+      → Own whole (offsetOf s t k) (ended line)
+  unfolding put
+  own-line t k line h e l =
+      let i = line-inside s t k h in
+      let at : offsetOf s t k ≤ length text = omega (arith, text-long) in
+      record {
+        rest = behindRecord year quarter name hours named s count t k ++ drop (0 + length text) before;
+        there =
+            drop-append-le (offsetOf s t k) text (drop (0 + length text) before) at
+            ∙ ap (λ (l : List ℕ). l ++ drop (0 + length text) before)
+            (record-place year quarter name hours named s count t k h
+            ∙ ap (λ (r : List ℕ). ended r ++ behindRecord year quarter name hours named s count t k) e)
+            ∙ append-assoc (ended line) _ _;
+        fits = omega (arith, ended-length line l, whole-long);
+      }
 
--- what is left of the runs of some types, put into the buffer
-module _ (year quarter : ℕ) (name sheet : List ℕ) (n : ℕ) where
-  unfoldable pub runsLeft : ℕ → List RecordType → List ℕ → List ℕ
-  runsLeft k [] buffer = buffer
-  runsLeft k (t ∷ ts) buffer = runsLeft k ts (runLeft year quarter name sheet t n k buffer)
+  -- hour k's lines, of the types that have one an hour
+  module _ (k : ℕ) (h : SheetHour) (rest : List SheetHour) (here : drop k hours ≡ h ∷ rest) where
+    pub rank-below : k < s .hours
+    rank-below = omega (arith, length-drop k hours, ap length here, count)
 
-  pub runs-end : (k : ℕ) (ts : List RecordType) (buffer : List ℕ) → n ≤ k → runsLeft k ts buffer ≡ buffer
-  unfolding runsLeft
-  runs-end k [] buffer h = refl
-  runs-end k (t ∷ ts) buffer h = ap (runsLeft k ts) (run-end year quarter name sheet t n k buffer h) ∙ runs-end k ts buffer h
+    own-hour : (t : RecordType) → recordOf t .run ≡ Hourly → Own whole (offsetOf s t k) (ended (hourRecord year quarter name t h))
+    own-hour t e =
+        let few : k < countOf s t = rw e rank-below in
+        let rs = ap (λ (rs : List (List ℕ)). getD rs k []) (hour-records year quarter name hours t e) in
+        let r = mapped-at (hourRecord year quarter name t) hours k h rest here in
+        own-line t k (hourRecord year quarter name t h) few (rs ∙ r) (hour-length name named year quarter t h)
 
-  -- the run of a type from hour k on ends where its last line does
-  run-left-length : length name ≡ 6 → (t : RecordType) (k : ℕ) → k ≤ n → offsetOf (shape n) t k + length (runOf year quarter name t (hoursFrom sheet k (n - k))) ≡ offsetOf (shape n) t n
-  run-left-length six t k h =
-      let l = run-length year quarter name six t (hoursFrom sheet k (n - k)) ∙ ap (λ (m : ℕ). (lengthOf t + 1) * m) (hours-length sheet k (n - k)) in
-      let s : k + (n - k) ≡ n = omega arith in
-      let m : (lengthOf t + 1) * (k + (n - k)) ≡ (lengthOf t + 1) * k + (lengthOf t + 1) * (n - k) = mul-add (lengthOf t + 1) k (n - k) in
-      let m′ : (lengthOf t + 1) * n ≡ (lengthOf t + 1) * k + (lengthOf t + 1) * (n - k) = ap (λ (x : ℕ). (lengthOf t + 1) * x) (sym s) ∙ m in
-      omega (arith, l, m′)
+    line-length : (t : RecordType) → length (ended (hourRecord year quarter name t h)) ≡ lengthOf t + 1
+    line-length t = ended-length (hourRecord year quarter name t h) (hour-length name named year quarter t h)
 
-  pub runs-more : length name ≡ 6 → (k : ℕ) → k < n → (ts : List RecordType) (buffer : List ℕ) → Ordered n k ts → reportBytes n ≤ length buffer
-      → runsLeft (k + 1) ts (linesAt year quarter name sheet n k ts buffer) ≡ runsLeft k ts buffer
-  unfolding runsLeft hourLines hourRecord
-  runs-more six k h [] buffer o room = refl
-  runs-more six k h (t ∷ ts) buffer o room =
-      let xs = runOf year quarter name t (hoursFrom sheet (k + 1) (n - (k + 1))) in
-      let ys = runOf year quarter name t (hoursFrom sheet k (n - k)) in
-      let b₁ = put (offsetOf (shape n) t k + 1) (lineAt year quarter name sheet n k t) buffer in
-      let k₁ = line-kept year quarter name sheet n k six t buffer (o .1) room in
-      let e = run-left-length six t (k + 1) (omega arith) in
-      let f = run-left-length six t k (omega arith) in
-      let k₂ : length (put (offsetOf (shape n) t k + 1) ys buffer) ≡ length buffer = put-length (offsetOf (shape n) t k + 1) ys buffer (omega (arith, o .2)) in
-      let behind : Behind n k (offsetOf (shape n) t (k + 1) + length xs) ts = rw e (o .3) in
-      ap (runsLeft (k + 1) ts) (lines-behind year quarter name sheet n k six ts (offsetOf (shape n) t (k + 1)) xs b₁ behind (omega arith))
-      ∙ ap (λ (b : List ℕ). runsLeft (k + 1) ts (linesAt year quarter name sheet n k ts b)) (run-more year quarter name sheet t n k buffer six (o .0) h room)
-      ∙ runs-more six k h ts (put (offsetOf (shape n) t k + 1) ys buffer) (o .4) (omega arith)
+    abbrev withLines : List RecordType → List ℕ → List ℕ
+    withLines ts buffer = hourLines name s k (stampOf year quarter (h .hour)) (recordedHour h) ts buffer
 
--- of the first hour on, they are the runs of the report
-pub runs-start : (year quarter : ℕ) (name sheet : List ℕ) → length name ≡ 6 → (buffer : List ℕ) → reportBytes (hourCount sheet) ≤ length buffer
-    → runsLeft year quarter name sheet (hourCount sheet) 0 hourTypes buffer
-    ≡ put (offsetOf (shape (hourCount sheet)) So2Mass 0 + 1) (runsOf year quarter name lastTypes (hoursOf sheet))
-    (put (offsetOf (shape (hourCount sheet)) So2Concentration 0 + 1) (runsOf year quarter name firstTypes (hoursOf sheet)) buffer)
-unfolding runsLeft
-runs-start year quarter name sheet six buffer room =
-    let n = hourCount sheet in
-    let hs = hoursOf sheet in
-    let c = hours-count sheet in
-    let b = put (offsetOf (shape n) So2Concentration 0 + 1) (runsOf year quarter name firstTypes hs) buffer in
-    let e : length b ≡ length buffer =
-    put-length (offsetOf (shape n) So2Concentration 0 + 1) (runsOf year quarter name firstTypes hs) buffer (omega (arith, first-length year quarter name six hs)) in
-    rw (hours-whole, first-runs year quarter name six n hs c buffer room) (last-runs year quarter name six n hs c b (omega arith))
+    module _ (i : ℕ) {P : Type 0} where
+      lines-keep : (ts : List RecordType) (buffer : List ℕ) → Right whole i P buffer → Right whole i P (withLines (hourly ts) buffer)
+      unfolding hourLines hourRecord
+      lines-keep [] buffer r = r
+      lines-keep (t ∷ ts) buffer r = go (recordOf t .run) refl (lines-keep ts)
+        where
+          go : (run : Run) → recordOf t .run ≡ run → ((b : List ℕ) → Right whole i P b → Right whole i P (withLines (hourly ts) b))
+              → Right whole i P (withLines (keepHourly run t (hourly ts)) buffer)
+          go Once e more = more buffer r
+          go Hourly e more = more _ (put-keeps (own-hour t e) r)
+
+      lines-fill : (t : RecordType) → recordOf t .run ≡ Hourly → offsetOf s t k ≤ i → i < offsetOf s t k + (lengthOf t + 1)
+          → (ts : List RecordType) (j : ℕ) (buffer : List ℕ) → j < length ts → getD ts j Facility ≡ t → length buffer ≡ length whole
+          → Right whole i P (withLines (hourly ts) buffer)
+      unfolding hourLines hourRecord
+      lines-fill t e l m [] j buffer h q long = absurd (omega arith)
+      lines-fill t e l m (u ∷ ts) zero buffer h q long =
+          let n = line-length t in
+          rw (q, e) (lines-keep ts _ (put-fills (own-hour t e) i buffer long l (omega arith)))
+      lines-fill t e l m (u ∷ ts) (suc j) buffer h q long = go (recordOf u .run) refl (λ b. lines-fill t e l m ts j b (omega arith) q)
+        where
+          go : (run : Run) → recordOf u .run ≡ run → ((b : List ℕ) → length b ≡ length whole → Right whole i P (withLines (hourly ts) b))
+              → Right whole i P (withLines (keepHourly run u (hourly ts)) buffer)
+          go Once f more = more buffer long
+          go Hourly f more = more _ (put-keeps (own-hour u f) (unknown i long) .long)
+
+      hour-fills : (t : RecordType) → recordOf t .run ≡ Hourly → offsetOf s t k ≤ i → i < offsetOf s t k + (lengthOf t + 1)
+          → (buffer : List ℕ) → length buffer ≡ length whole → Right whole i P (withLines (hourly order) buffer)
+      hour-fills t e l m buffer long = lines-fill t e l m order (rankOf t) buffer (in-order t .0) (in-order t .1) long
+
+  -- those of the hours from hour k on
+  abbrev withHours : ℕ → List SheetHour → List ℕ → List ℕ
+  withHours k hs buffer = hoursLines year quarter name s k hs buffer
+
+  hours-keep : {P : Type 0} (i k : ℕ) (hs : List SheetHour) (buffer : List ℕ) → drop k hours ≡ hs → Right whole i P buffer
+      → Right whole i P (withHours k hs buffer)
+  unfolding hoursLines
+  hours-keep i k [] buffer e r = r
+  hours-keep i k (h ∷ hs) buffer e r =
+      hours-keep i (suc k) hs (withLines k h hs e (hourly order) buffer) (rw (← add-one k) (drop-next hours k h hs e)) (lines-keep k h hs e i order buffer r)
+
+  hours-fill : {P : Type 0} (i : ℕ) (t : RecordType) → recordOf t .run ≡ Hourly → (k : ℕ) (hs : List SheetHour) (buffer : List ℕ) → drop k hours ≡ hs
+      → offsetOf s t k ≤ i → i < offsetOf s t (s .hours) → length buffer ≡ length whole → Right whole i P (withHours k hs buffer)
+  unfolding hoursLines
+  hours-fill i t f k [] buffer e l m long =
+      let n : s .hours ≤ k = omega (arith, length-drop k hours, ap length e, count) in
+      absurd (omega (arith, mul-le-mul-left (lengthOf t + 1) n))
+  hours-fill {P} i t f k (h ∷ hs) buffer e l m long = go (decLt i (offsetOf s t (suc k))) (hours-fill i t f (suc k) hs filled next)
+    where
+      filled : List ℕ
+      filled = withLines k h hs e (hourly order) buffer
+
+      next : drop (suc k) hours ≡ hs
+      next = rw (← add-one k) (drop-next hours k h hs e)
+
+      go : Dec (i < offsetOf s t (suc k))
+          → (offsetOf s t (suc k) ≤ i → i < offsetOf s t (s .hours) → length filled ≡ length whole → Right whole i P (withHours (suc k) hs filled))
+          → Right whole i P (withHours (suc k) hs filled)
+      go (no above) more = more (omega arith) m (lines-keep k h hs e i order buffer (unknown i long) .long)
+      go (yes below) more = hours-keep i (suc k) hs filled next (hour-fills k h hs e i t f l (omega arith) buffer long)
+
+  -- line 100 and line 301
+
+  own-facility : Own whole (offsetOf s Facility 0) (ended (facilityRecord year quarter name))
+  unfolding recordsOf
+  own-facility = own-line Facility 0 (facilityRecord year quarter name) (omega arith) refl (facility-length name named year quarter)
+
+  abbrev totals : List ℕ
+  totals = totalsRecord name (quarterTotals (recordedHours hours))
+
+  own-totals : Own whole (offsetOf s QuarterTotals 0) (ended totals)
+  unfolding recordsOf
+  own-totals = own-line QuarterTotals 0 totals (omega arith) refl (totals-length name named _)
+
+  abbrev withFacility : List ℕ
+  withFacility = put (offsetOf s Facility 0 + 1) (ended (facilityRecord year quarter name)) before
+
+  abbrev withAll : List ℕ
+  withAll = put (offsetOf s QuarterTotals 0 + 1) (ended totals) (withHours 0 hours withFacility)
+
+  all-right : (i : ℕ) → Right whole i (Unit {0}) withAll
+  all-right i = go (decLt i (reportLength s))
+    where
+      long : length before ≡ length whole
+      long = sym whole-long
+
+      kept : {P : Type 0} → Right whole i P withFacility → Right whole i P withAll
+      kept r = put-keeps own-totals (hours-keep i 0 hours withFacility refl r)
+
+      in-type : (t : RecordType) (run : Run) → recordOf t .run ≡ run → frontOf s t .bytes ≤ i → i < frontOf s t .bytes + bytesOf s t
+          → Right whole i (Unit {0}) withAll
+      in-type t Hourly e l m =
+          put-keeps own-totals
+          (hours-fill i t e 0 hours withFacility refl (omega arith) (rw e at m) (put-keeps own-facility (unknown i long) .long))
+      in-type t Once e l m = go′ (once-type t e)
+        where
+          go′ : (t ≡ Facility) ⊎ (t ≡ QuarterTotals) → Right whole i (Unit {0}) withAll
+          go′ (inl q) =
+              let n : i < frontOf s Facility .bytes + bytesOf s Facility = rw q at m in
+              let e = ended-length (facilityRecord year quarter name) (facility-length name named year quarter) in
+              kept (put-fills own-facility i before long (rw q at l) (omega arith))
+          go′ (inr q) =
+              let n : i < frontOf s QuarterTotals .bytes + bytesOf s QuarterTotals = rw q at m in
+              put-fills own-totals i (withHours 0 hours withFacility)
+              (hours-keep i 0 hours withFacility refl (put-keeps own-facility (unknown i long)) .long)
+              (omega (arith, ap (λ (t : RecordType). frontOf s t .bytes) q))
+              (omega (arith, ended-length totals (totals-length name named (quarterTotals (recordedHours hours)))))
+
+      go : Dec (i < reportLength s) → Right whole i (Unit {0}) withAll
+      go (yes h) = let r = in-run s i h in in-type (r .type) (recordOf (r .type) .run) refl (r .from) (r .below)
+      go (no h) =
+          let e = text-long in
+          kept (put-keeps own-facility (record { long = long; byte = λ p. sym (put-behind 1 text before (omega arith) i (omega arith)) }))
+
+  pub report-written : withAll ≡ put 1 text before
+  report-written = ext-getD 0 withAll whole (all-right 0 .long) (λ i h. all-right i .byte tt)

@@ -1,6 +1,7 @@
 pub mod OnePass
 pub mod FirstRefusal
 pub mod Filling
-pub mod Runs
+pub mod Hours
+pub mod Puts
 pub mod HourLines
 pub mod Answer

@@ -1,5 +1,4 @@
 -- 01's worked hour and its empty quarter: what the writer gives for them, byte by byte.
--- Assumes nothing.
 use mathlib.Core.Path.{_≡_, refl}
 use mathlib.Core.List.{List, [], _∷_}
 use Prim.Native.Nat.{ℕ, _+_, _*_, _^_}
@@ -10,13 +9,15 @@ use Rattle.columns.specs.Written.{digitsOf, digitOrBlank, leading, wholeWritten
 use Rattle.calendar.specs.Calendar.{leapYear, daysInMonth, daysInQuarter, hoursInQuarter, daysBefore, monthOfDay, dateOfHour}
 use Rattle.exact.specs.Fraction.{over}
 use Rattle.exact.specs.Sums.{totalOf}
-use Rattle.layout.specs.Layout.{lengthOf}
+use Rattle.layout.specs.Layout.{within, reportLength}
 use Rattle.stamp.specs.Stamp.{stampNumber, stampOf}
 use Rattle.formulas.specs.Formulas.{roundedValue, roundedFigures}
 use Rattle.totals.specs.Totals.{totalsOf, meanOf, quarterOf, quarterTotals}
-use Rattle.writer.specs.Sheet.{hourAt, hoursFrom, hoursOf, recordedHours}
-use Rattle.writer.specs.Refusals.{every, headingHolds, kindsRise, kindsHold, hoursRise, sheetHolds, inRange, readingsHold, figuresHold, refusalOf}
-use Rattle.writer.specs.Written.{headed, valued, facilityRecord, hourRecord, totalsRecord, runOf, runsOf, report, answered, buffered}
+use Rattle.sheet.specs.Sheet.{hourAt, hoursFrom, hoursOf}
+use Rattle.sheet.specs.SheetTests.{every, headingHolds, kindsRise, kindsHold, hourHolds, hoursRise, sheetHolds, readingsHold}
+use Rattle.writer.specs.Recorded.{recordedHours}
+use Rattle.writer.specs.Refusals.{figuresHold, refusalOf}
+use Rattle.writer.specs.Written.{headed, valued, facilityRecord, hourRecord, totalsRecord, recordsOf, lined, report, answered, buffered}
 use Rattle.writer.specs.declared.Written.the-variants.{Length}
 
 -- STACK1
@@ -60,9 +61,15 @@ empty =
     48 ∷ 32 ∷ 48 ∷ 46 ∷ 48 ∷ 48 ∷ 48 ∷ 10 ∷ []
 
 pub worked-written : (answered 2005 3 stack workedSheet 382 ≡ Length 382) × (buffered 2005 3 stack workedSheet (replicate 382 0) ≡ worked)
-unfolding worked all put digitsOf digitOrBlank leading wholeWritten fixedWritten written leapYear daysInMonth daysInQuarter hoursInQuarter daysBefore monthOfDay dateOfHour over totalOf stampNumber stampOf roundedValue roundedFigures totalsOf meanOf quarterOf quarterTotals hourAt hoursFrom hoursOf recordedHours every headingHolds kindsRise kindsHold hoursRise sheetHolds inRange readingsHold figuresHold refusalOf headed valued facilityRecord hourRecord totalsRecord runOf runsOf report answered buffered
+unfolding worked all put digitsOf digitOrBlank leading wholeWritten fixedWritten written leapYear daysInMonth daysInQuarter hoursInQuarter daysBefore
+    monthOfDay dateOfHour over totalOf stampNumber stampOf roundedValue roundedFigures totalsOf meanOf quarterOf quarterTotals hourAt hoursFrom
+    hoursOf reportLength within recordedHours every headingHolds kindsRise kindsHold hourHolds hoursRise sheetHolds readingsHold figuresHold
+    refusalOf headed valued facilityRecord hourRecord totalsRecord recordsOf lined report answered buffered
 worked-written = (refl, refl)
 
 pub empty-written : (answered 2005 3 stack [] 64 ≡ Length 64) × (buffered 2005 3 stack [] (replicate 64 0) ≡ empty)
-unfolding empty all put digitsOf digitOrBlank leading wholeWritten fixedWritten written leapYear daysInMonth daysInQuarter hoursInQuarter daysBefore monthOfDay dateOfHour over totalOf stampNumber stampOf roundedValue roundedFigures totalsOf meanOf quarterOf quarterTotals hourAt hoursFrom hoursOf recordedHours every headingHolds kindsRise kindsHold hoursRise sheetHolds inRange readingsHold figuresHold refusalOf headed valued facilityRecord hourRecord totalsRecord runOf runsOf report answered buffered
+unfolding empty all put digitsOf digitOrBlank leading wholeWritten fixedWritten written leapYear daysInMonth daysInQuarter hoursInQuarter daysBefore
+    monthOfDay dateOfHour over totalOf stampNumber stampOf roundedValue roundedFigures totalsOf meanOf quarterOf quarterTotals hourAt hoursFrom
+    hoursOf reportLength within recordedHours every headingHolds kindsRise kindsHold hourHolds hoursRise sheetHolds readingsHold figuresHold
+    refusalOf headed valued facilityRecord hourRecord totalsRecord recordsOf lined report answered buffered
 empty-written = (refl, refl)

@@ -1,18 +1,32 @@
 -- The lines of one hour among those of the others: how a report is written in one pass over the sheet.
--- Assumes nothing.
-use Prim.Native.Nat.{ℕ, _+_}
+use Prim.Native.Nat.{ℕ, suc, _+_, _≤_, _<_}
+use mathlib.Core.Path.{_≡_}
 use mathlib.Core.List.{List, [], _∷_}
+use lib.ListN.{length}
 use Rattle.columns.specs.Columns.{put}
-use Rattle.layout.specs.Layout.{order, hourly, offsetOf, shape}
+use Rattle.layout.specs.Layout.{order, hourly, offsetOf, stackWidth, Held, reportLength}
+use Rattle.stamp.specs.Stamp.{stampOf}
 use Rattle.formulas.specs.declared.hour.Hour.{Hour}
 use Rattle.layout.specs.declared.RecordType.{RecordType}
+use Rattle.layout.specs.declared.Shape.{Shape}
+use Rattle.sheet.specs.declared.SheetHour.{SheetHour}
+use Rattle.writer.specs.Recorded.{recordedHour}
 use Rattle.writer.specs.Written.{ended, datedRecord}
 
--- the types of which every hour has a line, in the order of the report
-abbrev pub hourTypes : List RecordType
-hourTypes = hourly order
+-- an hour of a report that a buffer has room for
+pub record HourFits (s : Shape) (k : ℕ) (name buffer : List ℕ) : Type 0 where
+  pub rank : k < s .hours
+  pub held : Held s
+  pub named : length name ≡ stackWidth
+  pub room : reportLength s ≤ length buffer
 
--- the lines of hour k of n, one of each of these types, put at their offsets
-unfoldable pub hourLines : List ℕ → (n k : ℕ) → List ℕ → Hour → List RecordType → List ℕ → List ℕ
-hourLines name n k date h [] buffer = buffer
-hourLines name n k date h (t ∷ ts) buffer = hourLines name n k date h ts (put (offsetOf (shape n) t k + 1) (ended (datedRecord name t date h)) buffer)
+-- the lines of hour k, one of each of these types, put at their offsets
+unfoldable pub hourLines : List ℕ → Shape → ℕ → List ℕ → Hour → List RecordType → List ℕ → List ℕ
+hourLines name s k date h [] buffer = buffer
+hourLines name s k date h (t ∷ ts) buffer = hourLines name s k date h ts (put (offsetOf s t k + 1) (ended (datedRecord name t date h)) buffer)
+
+-- those of some hours, from hour k on
+unfoldable pub hoursLines : ℕ → ℕ → List ℕ → Shape → ℕ → List SheetHour → List ℕ → List ℕ
+hoursLines year quarter name s k [] buffer = buffer
+hoursLines year quarter name s k (h ∷ hs) buffer =
+    hoursLines year quarter name s (suc k) hs (hourLines name s k (stampOf year quarter (h .hour)) (recordedHour h) (hourly order) buffer)

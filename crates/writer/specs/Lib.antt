@@ -1,8 +1,7 @@
-pub mod Sheet
+pub mod Recorded
 pub mod Refusals
 pub mod OnePass
 pub mod Writable
-pub mod SheetLaws
 pub mod RefusalLaws
 pub mod Written
 pub mod HourLines

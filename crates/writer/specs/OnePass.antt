@@ -1,11 +1,12 @@
 -- The refusals 31 to 33 as one pass over the hours finds them. Only contracts inside the writer name these; proofs/FirstRefusal.antt
--- proves that the pass gives what refusalOf says. Assumes nothing.
+-- proves that the pass gives what refusalOf says.
 use Prim.Native.Nat.{ℕ, zero, suc, min}
 use mathlib.Core.List.{List}
 use mathlib.Core.Bool.{Bool, true, false}
-use Rattle.writer.specs.Sheet.{hoursFrom}
-use Rattle.writer.specs.Refusals.{every, kindsHold, hoursRise, readingsHold, figuresFit}
-use Rattle.writer.specs.declared.sheet.SheetHour.{SheetHour}
+use Rattle.sheet.specs.Sheet.{hoursFrom}
+use Rattle.sheet.specs.SheetTests.{every, kindsHold, hoursRise, readingsHold}
+use Rattle.writer.specs.Refusals.{figuresFit}
+use Rattle.sheet.specs.declared.SheetHour.{SheetHour}
 
 -- 32 or 33 where the readings or the figures do not hold; 0 is none
 abbrev pub valuesRefusal : Bool → Bool → ℕ

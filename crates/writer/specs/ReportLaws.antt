@@ -1,57 +1,136 @@
--- What is proved of a report: its length. Assumes nothing.
-use Prim.Native.Nat.{ℕ, _+_, _*_}
-use mathlib.Core.Path.{_≡_, _∙_}
-use mathlib.Core.List.{List, [], _∷_}
+-- What is proved of a report's records: their number, their lengths, and where each stands.
+use Prim.Native.Nat.{ℕ, zero, suc, _+_, _*_, _≤_, _<_}
+use mathlib.Core.Path.{_≡_, refl, sym, ap, _∙_}
+use mathlib.Core.Bool.{true}
+use mathlib.Core.List.{List, [], _∷_, _++_, map, append-assoc}
+use mathlib.Core.Logic.{_⊎_, inl, inr}
 use native.Mathlib.Omega.{arith}
-use lib.ListN.{length, length-append}
-use Rattle.exact.specs.Sums.{totalOf}
-use Rattle.layout.specs.Layout.{lengthOf}
+use native.Mathlib.Nat.{mul-le-mul-left}
+use native.Mathlib.Numerals.{add-one}
+use lib.ListN.{length, drop, getD, length-append, length-map}
+use lib.Seq.{drop-append-le, drop-append-add, drop-drop, drop-cons}
+use Rattle.columns.specs.Bytes.{all, isPrintable}
+use Rattle.layout.specs.Layout.{recordOf, order, later, lengthOf, stackWidth, countOf, linesOf, bytesOf, frontOf, offsetOf, reportLength}
+use Rattle.layout.specs.PlaceLaws.{runsOf, run-place}
+use Rattle.layout.specs.RunLaws.{once-type, runs-length}
 use Rattle.totals.specs.Totals.{quarterTotals}
-use Rattle.totals.specs.declared.Quarter.{Quarter}
+use Rattle.layout.specs.declared.Run.{Run}
+use Rattle.layout.specs.declared.Run.the-variants.{Once, Hourly}
 use Rattle.layout.specs.declared.RecordType.{RecordType}
 use Rattle.layout.specs.declared.RecordType.the-variants.{Facility, QuarterTotals}
-use Rattle.writer.specs.Sheet.{recordedHours}
-use Rattle.writer.specs.Refusals.{reportBytes}
-use Rattle.writer.specs.Written.{ended, facilityRecord, hourRecord, totalsRecord, runOf, runsOf, firstTypes, lastTypes, report}
-use Rattle.writer.specs.LineLaws.{facility-length, hour-length, totals-length}
-use Rattle.writer.specs.declared.sheet.SheetHour.{SheetHour}
+use Rattle.layout.specs.declared.Shape.{Shape}
+use Rattle.sheet.specs.declared.SheetHour.{SheetHour}
+use Rattle.writer.specs.Recorded.{recordedHours}
+use Rattle.writer.specs.Written.{ended, facilityRecord, hourRecord, totalsRecord, onceRecord, runRecords, recordsOf, lined, report}
+use Rattle.writer.specs.LineLaws.{facility-length, hour-length, totals-length, facility-printable, hour-printable, totals-printable}
 
--- a record of a type's length, with its byte 10
-ended-length : (t : RecordType) (line : List ℕ) → length line ≡ lengthOf t → length (ended line) ≡ lengthOf t + 1
-ended-length t line e = length-append line (10 ∷ []) ∙ omega arith
+-- what holds of every record of a list
+abbrev pub EachRecord : (List ℕ → Type 0) → List (List ℕ) → Type 0
+EachRecord P [] = Unit {0}
+EachRecord P (r ∷ rs) = P r × EachRecord P rs
 
-module _ (year quarter : ℕ) (name : List ℕ) (six : length name ≡ 6) where
-  pub facility-line-length : length (ended (facilityRecord year quarter name)) ≡ lengthOf Facility + 1
-  facility-line-length = ended-length Facility (facilityRecord year quarter name) (facility-length name six year quarter)
+-- a record of a length and its byte 10
+pub ended-length : (line : List ℕ) {n : ℕ} → length line ≡ n → length (ended line) ≡ n + 1
+ended-length line e = length-append line (10 ∷ []) ∙ omega arith
 
-  pub hour-line-length : (t : RecordType) (h : SheetHour) → length (ended (hourRecord year quarter name t h)) ≡ lengthOf t + 1
-  hour-line-length t h = ended-length t (hourRecord year quarter name t h) (hour-length name six year quarter t h)
+-- lines of records of one length
+module _ (size : ℕ) where
+  pub lined-length : (rs : List (List ℕ)) → EachRecord (λ r. length r ≡ size) rs → length (lined rs) ≡ (size + 1) * length rs
+  unfolding lined
+  lined-length [] e = omega arith
+  lined-length (r ∷ rs) e =
+      length-append (ended r) (lined rs) ∙ omega (arith, ended-length r (e .0), lined-length rs (e .1))
 
-  pub run-length : (t : RecordType) (hs : List SheetHour) → length (runOf year quarter name t hs) ≡ (lengthOf t + 1) * length hs
-  unfolding runOf
-  run-length t [] = omega arith
-  run-length t (h ∷ hs) =
-      length-append (ended (hourRecord year quarter name t h)) (runOf year quarter name t hs)
-      ∙ omega (arith, hour-line-length t h, run-length t hs)
+  pub lined-drop : (rs : List (List ℕ)) (k : ℕ) → EachRecord (λ r. length r ≡ size) rs → k ≤ length rs → drop ((size + 1) * k) (lined rs) ≡ lined (drop k rs)
+  unfolding lined
+  lined-drop rs zero e h =
+      let z : (size + 1) * 0 ≡ 0 = omega arith in
+      rw z
+  lined-drop [] (suc k) e h = absurd (omega arith)
+  lined-drop (r ∷ rs) (suc k) e h =
+      let n : (size + 1) * suc k ≡ length (ended r) + (size + 1) * k = omega (arith, ended-length r (e .0)) in
+      rw n (drop-append-add (ended r) (lined rs) ((size + 1) * k) ∙ lined-drop rs k (e .1) (omega arith))
 
-  runs-length : (ts : List RecordType) (hs : List SheetHour) → length (runsOf year quarter name ts hs) ≡ totalOf (λ t. lengthOf t + 1) ts * length hs
-  unfolding runsOf totalOf
-  runs-length [] hs = omega arith
-  runs-length (t ∷ ts) hs =
-      length-append (runOf year quarter name t hs) (runsOf year quarter name ts hs) ∙ omega (arith, run-length t hs, runs-length ts hs)
+module _ (year quarter : ℕ) (name : List ℕ) (hours : List SheetHour) where
+  -- what holds of line 100, of line 301 and of the hours' records holds of every record
+  pub records-each : (P : RecordType → List ℕ → Type 0) → P Facility (facilityRecord year quarter name)
+      → P QuarterTotals (totalsRecord name (quarterTotals (recordedHours hours)))
+      → ((t : RecordType) → recordOf t .run ≡ Hourly → (h : SheetHour) → P t (hourRecord year quarter name t h))
+      → (t : RecordType) → EachRecord (P t) (recordsOf year quarter name hours t)
+  unfolding recordsOf
+  records-each P first totals each t = go (recordOf t .run) refl
+    where
+      one : (t ≡ Facility) ⊎ (t ≡ QuarterTotals) → P t (onceRecord year quarter name hours t)
+      one (inl e) = rw e first
+      one (inr e) = rw e totals
 
-  pub first-length : (hs : List SheetHour) → length (runsOf year quarter name firstTypes hs) ≡ 203 * length hs
-  unfolding totalOf
-  first-length hs = runs-length firstTypes hs
+      ofHours : recordOf t .run ≡ Hourly → (hs : List SheetHour) → EachRecord (P t) (map (hourRecord year quarter name t) hs)
+      ofHours e [] = tt
+      ofHours e (h ∷ hs) = (each t e h, ofHours e hs)
 
-  pub last-length : (hs : List SheetHour) → length (runsOf year quarter name lastTypes hs) ≡ 115 * length hs
-  unfolding totalOf
-  last-length hs = runs-length lastTypes hs
+      go : (run : Run) → recordOf t .run ≡ run
+          → EachRecord (P t) (runRecords run (onceRecord year quarter name hours t) (map (hourRecord year quarter name t) hours))
+      go Once e = (one (once-type t e), tt)
+      go Hourly e = ofHours e hours
 
-  pub totals-line-length : (q : Quarter) → length (ended (totalsRecord name q)) ≡ lengthOf QuarterTotals + 1
-  totals-line-length q = ended-length QuarterTotals (totalsRecord name q) (totals-length name six q)
+  pub records-printable : all isPrintable name ≡ true → (t : RecordType) → EachRecord (λ r. all isPrintable r ≡ true) (recordsOf year quarter name hours t)
+  records-printable p t =
+      records-each (λ t r. all isPrintable r ≡ true) (facility-printable name p year quarter) (totals-printable name p _)
+      (λ t e h. hour-printable name p year quarter t h) t
 
-  pub report-length : (hs : List SheetHour) → length (report year quarter name hs) ≡ reportBytes (length hs)
-  unfolding report
-  report-length hs =
-      simp length-append (omega (arith, facility-length name six year quarter, first-length hs, totals-length name six (quarterTotals (recordedHours hs)), last-length hs))
+  pub hour-records : (t : RecordType) → recordOf t .run ≡ Hourly → recordsOf year quarter name hours t ≡ map (hourRecord year quarter name t) hours
+  unfolding recordsOf
+  hour-records t e = rw e
+
+  module _ (named : length name ≡ stackWidth) where
+    pub records-length : (t : RecordType) → EachRecord (λ r. length r ≡ lengthOf t) (recordsOf year quarter name hours t)
+    records-length t =
+        records-each (λ t r. length r ≡ lengthOf t) (facility-length name named year quarter) (totals-length name named _)
+        (λ t e h. hour-length name named year quarter t h) t
+
+    -- in a report of a shape
+    module _ (s : Shape) (count : length hours ≡ s .hours) where
+      pub records-count : (t : RecordType) → length (recordsOf year quarter name hours t) ≡ countOf s t
+      unfolding recordsOf
+      records-count t = go (recordOf t .run)
+        where
+          go : (run : Run) → length (runRecords run (onceRecord year quarter name hours t) (map (hourRecord year quarter name t) hours)) ≡ linesOf run s
+          go Once = refl
+          go Hourly = length-map hours (hourRecord year quarter name t) ∙ count
+
+      pub run-length : (t : RecordType) → length (lined (recordsOf year quarter name hours t)) ≡ bytesOf s t
+      run-length t =
+          lined-length (lengthOf t) (recordsOf year quarter name hours t) (records-length t)
+          ∙ ap (λ (n : ℕ). (lengthOf t + 1) * n) (records-count t)
+
+      pub report-length : length (report year quarter name hours) ≡ reportLength s
+      unfolding report reportLength
+      report-length = runs-length (λ t. lined (recordsOf year quarter name hours t)) s run-length order
+
+      -- from the k-th record of a type on
+      pub records-place : (t : RecordType) (k : ℕ) → k ≤ countOf s t
+          → drop (offsetOf s t k) (report year quarter name hours)
+          ≡ lined (drop k (recordsOf year quarter name hours t)) ++ runsOf (λ t. lined (recordsOf year quarter name hours t)) (later t)
+      unfolding report
+      records-place t k h =
+          let rs = recordsOf year quarter name hours t in
+          let rest = runsOf (λ t. lined (recordsOf year quarter name hours t)) (later t) in
+          let n : (lengthOf t + 1) * k ≤ length (lined rs) = omega (arith, run-length t, mul-le-mul-left (lengthOf t + 1) h) in
+          sym (drop-drop ((lengthOf t + 1) * k) (frontOf s t .bytes) _)
+          ∙ ap (drop ((lengthOf t + 1) * k)) (run-place (λ t. lined (recordsOf year quarter name hours t)) s run-length t)
+          ∙ drop-append-le ((lengthOf t + 1) * k) (lined rs) rest n
+          ∙ ap (λ (l : List ℕ). l ++ rest) (lined-drop (lengthOf t) rs k (records-length t) (omega (arith, records-count t)))
+
+      -- the k-th record of a type, its byte 10, and what follows
+      abbrev pub behindRecord : RecordType → ℕ → List ℕ
+      behindRecord t k = lined (drop (k + 1) (recordsOf year quarter name hours t)) ++ runsOf (λ t. lined (recordsOf year quarter name hours t)) (later t)
+
+      pub record-place : (t : RecordType) (k : ℕ) → k < countOf s t
+          → drop (offsetOf s t k) (report year quarter name hours) ≡ ended (getD (recordsOf year quarter name hours t) k []) ++ behindRecord t k
+      unfolding lined
+      record-place t k h =
+          let rs = recordsOf year quarter name hours t in
+          let i : k < length rs = omega (arith, records-count t) in
+          records-place t k (omega arith)
+          ∙ ap (λ (l : List (List ℕ)). lined l ++ runsOf (λ t. lined (recordsOf year quarter name hours t)) (later t)) (drop-cons rs k [] i)
+          ∙ rw (add-one k) (append-assoc (ended (getD rs k [])) (lined (drop (suc k) rs)) _)

@@ -1,27 +1,56 @@
 -- The report of a sheet, byte by byte; the writer's answer, and the lent buffer afterwards.
--- Assumes nothing.
 use Prim.Native.Nat.{ℕ, zero, suc}
-use mathlib.Core.List.{List, [], _∷_, _++_}
+use mathlib.Core.Bool.{cond}
+use mathlib.Core.List.{List, [], _∷_, _++_, map}
+use lib.Dec.{eqb}
 use lib.ListN.{length, drop, replicate}
 use Rattle.columns.specs.Columns.{put}
 use Rattle.columns.specs.Written.{digitsOf, written}
-use Rattle.layout.specs.Layout.{codeOf, earlier, later, hourly, lengthOf, dateColumn, typeStart, typeWidth, stackStart, yearDigits, quarterDigit, valuesOf}
+use Rattle.layout.specs.Layout.{
+  recordOf,
+  codeOf,
+  order,
+  lengthOf,
+  dateColumn,
+  typeStart,
+  typeDigits,
+  stackStart,
+  yearDigits,
+  quarterDigit,
+  valuesOf,
+  reportLength,
+}
+use Rattle.layout.specs.PlaceLaws.{runsOf}
 use Rattle.stamp.specs.Stamp.{stampOf}
 use Rattle.totals.specs.Totals.{quarterTotals}
 use Rattle.formulas.specs.declared.hour.Hour.{Hour}
 use Rattle.totals.specs.declared.Quarter.{Quarter}
 use Rattle.layout.specs.declared.Value.{Value}
+use Rattle.layout.specs.declared.Run.{Run}
+use Rattle.layout.specs.declared.Run.the-variants.{Once, Hourly}
 use Rattle.layout.specs.declared.RecordType.{RecordType}
-use Rattle.layout.specs.declared.RecordType.the-variants.{Facility, So2Concentration, NoxConcentration, Co2Concentration, VolumetricFlow, Operation, QuarterTotals, So2Mass, NoxRate, Co2Mass}
-use Rattle.writer.specs.Sheet.{hourCount, hoursOf, recordedHour, recordedHours}
-use Rattle.writer.specs.Refusals.{reportBytes, refusalOf}
-use Rattle.writer.specs.declared.sheet.SheetHour.{SheetHour}
+use Rattle.layout.specs.declared.RecordType.the-variants.{
+  Facility,
+  So2Concentration,
+  NoxConcentration,
+  Co2Concentration,
+  VolumetricFlow,
+  Operation,
+  QuarterTotals,
+  So2Mass,
+  NoxRate,
+  Co2Mass,
+}
+use Rattle.sheet.specs.Sheet.{shapeOf, hoursOf}
+use Rattle.sheet.specs.declared.SheetHour.{SheetHour}
+use Rattle.writer.specs.Recorded.{recordedHour, recordedHours}
+use Rattle.writer.specs.Refusals.{refusalOf}
 use Rattle.writer.specs.declared.Written.{Written}
 use Rattle.writer.specs.declared.Written.the-variants.{Length, Refused}
 
--- type code and stack name in an otherwise blank record
+-- type and stack name in an otherwise blank record
 unfoldable pub headed : RecordType → List ℕ → List ℕ
-headed t name = put stackStart name (put typeStart (digitsOf typeWidth (codeOf t)) (replicate (lengthOf t) 32))
+headed t name = put stackStart name (put typeStart (typeDigits t) (replicate (lengthOf t) 32))
 
 -- numbers in their columns, left to right
 unfoldable pub valued : List Value → List ℕ → List ℕ → List ℕ
@@ -35,7 +64,8 @@ ended line = line ++ (10 ∷ [])
 
 unfoldable pub facilityRecord : ℕ → ℕ → List ℕ → List ℕ
 facilityRecord year quarter name =
-    put (quarterDigit .start) (digitsOf (quarterDigit .width) quarter) (put (yearDigits .start) (digitsOf (yearDigits .width) year) (headed Facility name))
+    put (quarterDigit .start) (digitsOf (quarterDigit .width) quarter)
+    (put (yearDigits .start) (digitsOf (yearDigits .width) year) (headed Facility name))
 
 -- the values of an hour in the record of a type, left to right
 abbrev pub hourValues : RecordType → Hour → List ℕ
@@ -64,39 +94,38 @@ totalValues q = q .so2 ∷ q .co2 ∷ q .heat ∷ q .nox ∷ []
 unfoldable pub totalsRecord : List ℕ → Quarter → List ℕ
 totalsRecord name q = valued (valuesOf QuarterTotals) (totalValues q) (headed QuarterTotals name)
 
--- a line of a type for each hour
-unfoldable pub runOf : ℕ → ℕ → List ℕ → RecordType → List SheetHour → List ℕ
-runOf year quarter name t [] = []
-runOf year quarter name t (h ∷ hs) = ended (hourRecord year quarter name t h) ++ runOf year quarter name t hs
+-- the record of a type that a report has once: that of line 100 or that of line 301
+abbrev pub onceRecord : ℕ → ℕ → List ℕ → List SheetHour → RecordType → List ℕ
+onceRecord year quarter name hours t =
+    cond (eqb (codeOf t) (codeOf Facility)) (facilityRecord year quarter name) (totalsRecord name (quarterTotals (recordedHours hours)))
 
--- a run of each of these types, one after the other
-unfoldable pub runsOf : ℕ → ℕ → List ℕ → List RecordType → List SheetHour → List ℕ
-runsOf year quarter name [] hours = []
-runsOf year quarter name (t ∷ ts) hours = runOf year quarter name t hours ++ runsOf year quarter name ts hours
+-- the records of a run: the one of its type, or those of the hours
+abbrev pub runRecords : Run → List ℕ → List (List ℕ) → List (List ℕ)
+runRecords Once one ofHours = one ∷ []
+runRecords Hourly one ofHours = ofHours
 
--- the types of the runs in front of record 301, and of those behind it
-abbrev pub firstTypes : List RecordType
-firstTypes = hourly (earlier QuarterTotals)
+-- the records of a type in a report
+unfoldable pub recordsOf : ℕ → ℕ → List ℕ → List SheetHour → RecordType → List (List ℕ)
+recordsOf year quarter name hours t = runRecords (recordOf t .run) (onceRecord year quarter name hours t) (map (hourRecord year quarter name t) hours)
 
-abbrev pub lastTypes : List RecordType
-lastTypes = hourly (later QuarterTotals)
+-- records as lines, one after the other
+unfoldable pub lined : List (List ℕ) → List ℕ
+lined [] = []
+lined (r ∷ rs) = ended r ++ lined rs
 
+-- the lines of each type, in the order of a report
 unfoldable pub report : ℕ → ℕ → List ℕ → List SheetHour → List ℕ
-report year quarter name hours =
-    ended (facilityRecord year quarter name)
-    ++ (runsOf year quarter name firstTypes hours
-    ++ (ended (totalsRecord name (quarterTotals (recordedHours hours)))
-    ++ runsOf year quarter name lastTypes hours))
+report year quarter name hours = runsOf (λ t. lined (recordsOf year quarter name hours t)) order
 
 -- to a sheet and a buffer of so many bytes
 unfoldable pub answered : ℕ → ℕ → List ℕ → List ℕ → ℕ → Written
 answered year quarter name sheet room =
-    elim (refusalOf year quarter name sheet room) [ zero ↦ Length (reportBytes (hourCount sheet)) | suc c ↦ Refused (suc c) ]
+    elim (refusalOf year quarter name sheet room) [ zero ↦ Length (reportLength (shapeOf sheet)) | suc c ↦ Refused (suc c) ]
 
 -- bytes beyond the report keep their values, and a refusal changes no byte
 unfoldable pub buffered : ℕ → ℕ → List ℕ → List ℕ → List ℕ → List ℕ
 buffered year quarter name sheet buffer =
     elim (refusalOf year quarter name sheet (length buffer)) [
-      | zero ↦ report year quarter name (hoursOf sheet) ++ drop (reportBytes (hourCount sheet)) buffer
+      | zero ↦ report year quarter name (hoursOf sheet) ++ drop (reportLength (shapeOf sheet)) buffer
       | suc c ↦ buffer
     ]

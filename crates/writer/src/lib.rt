@@ -1,8 +1,7 @@
-// The writer: a sheet of readings, six words to an operating hour, becomes a quarterly report in a lent buffer.
+// The writer: a sheet of readings becomes a quarterly report in a lent buffer.
 mod lines;
 mod refusals;
 mod report;
-pub mod sheet;
 
 ghost use mathlib.Core.Path.{_≡_};
 ghost use lib.ListN.{length};
@@ -15,7 +14,13 @@ pub enum Written {
 }
 
 // Writes the report of a sheet to the front of the buffer; a refusal changes no byte.
-pub fn write(year: u64, quarter: u64, name: [u8; 6], sheet: &[u32], buffer: &mut [u8]) -> Written
+pub fn write(
+    year: u64,
+    quarter: u64,
+    name: [u8; layout::STACK_WIDTH],
+    sheet: &[u32],
+    buffer: &mut [u8],
+) -> Written
     ensures { λ r. ⌜ (r ≡ answered year quarter name (now (sheet .entry)) (length (now (buffer .entry))))
         × (now (buffer .exit) ≡ buffered year quarter name (now (sheet .entry)) (now (buffer .entry))) ⌝ }
 {
@@ -24,5 +29,5 @@ pub fn write(year: u64, quarter: u64, name: [u8; 6], sheet: &[u32], buffer: &mut
         return Written::Refused(refusal);
     }
     report::write_report(buffer, year, quarter, &name, sheet);
-    Written::Length(refusals::report_bytes(sheet.len() / 6))
+    Written::Length(layout::report_length(sheet::shape_of(sheet)))
 }

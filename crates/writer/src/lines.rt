@@ -1,19 +1,20 @@
 // The records of a report, each written into its own part of the lent buffer.
-use crate::sheet::SheetHour;
 use formulas::hour::Hour;
 use layout::RecordType;
+use layout::Run;
 use layout::Shape;
+use sheet::SheetHour;
 use totals::Quarter;
 ghost use mathlib.Core.Path.{_≡_};
-ghost use Prim.Native.Nat.{_+_, _≤_, _<_};
+ghost use Prim.Native.Nat.{_+_, _<_};
 ghost use lib.ListN.{length, take, replicate};
 ghost use Rattle.columns.specs.Columns.{put};
 ghost use Rattle.columns.specs.Written.{digitsOf};
-ghost use Rattle.layout.specs.Layout.{lengthOf, dateColumn, valueCount, valuesOf, offsetOf, shape};
+ghost use Rattle.layout.specs.Layout.{recordOf, lengthOf, stackWidth, dateWidth, valueCount, valuesOf, offsetOf};
 ghost use Rattle.formulas.specs.Hour.{ReadingsWithin};
-ghost use Rattle.writer.specs.Sheet.{recordedHour};
-ghost use Rattle.writer.specs.Refusals.{reportBytes};
+ghost use Rattle.writer.specs.Recorded.{recordedHour};
 ghost use Rattle.writer.specs.Written.{headed, valued, ended, facilityRecord, hourValues, datedRecord, totalsRecord};
+ghost use Rattle.writer.specs.HourLines.{HourFits};
 
 fn fill_blank(line: &mut [u8])
     ensures { λ _. ⌜ now (line .exit) ≡ replicate (length (now (line .entry))) 32 ⌝ }
@@ -25,23 +26,19 @@ fn fill_blank(line: &mut [u8])
     }
 }
 
-// Type code and stack name in an otherwise blank record.
+// Type and stack name in an otherwise blank record.
 fn write_heading(line: &mut [u8], t: RecordType, name: &[u8])
-    requires { ⌜ (length (now line) ≡ lengthOf t) × (length (now name) ≡ 6) ⌝ }
+    requires { ⌜ (length (now line) ≡ lengthOf t) × (length (now name) ≡ stackWidth) ⌝ }
     ensures { λ _. ⌜ now (line .exit) ≡ headed t (now (name .entry)) ⌝ }
 {
     fill_blank(line);
-    columns::write_digits(
-        line,
-        layout::TYPE_START,
-        layout::TYPE_WIDTH,
-        layout::type_code(t),
-    );
-    columns::write_bytes(line, layout::STACK_START, name);
+    let digits = layout::type_digits(t);
+    filling::write_bytes(line, layout::TYPE_START, &digits);
+    filling::write_bytes(line, layout::STACK_START, name);
 }
 
 // The first of these numbers, as many as the record has values, in its columns.
-fn write_values(line: &mut [u8], t: RecordType, values: [u64; 4])
+fn write_values(line: &mut [u8], t: RecordType, values: [u64; layout::MOST_VALUES])
     requires { ⌜ length (now line) ≡ lengthOf t ⌝ }
     ensures { λ _. ⌜ now (line .exit) ≡ valued (valuesOf t) (take (valueCount t) values) (now (line .entry)) ⌝ }
 {
@@ -49,18 +46,18 @@ fn write_values(line: &mut [u8], t: RecordType, values: [u64; 4])
     let mut i = 0;
     while i < count {
         let v = layout::value_at(t, i);
-        columns::write_number(line, v.start, v.width, v.decimals, values[i]);
+        filling::write_number(line, v.start, v.width, v.decimals, values[i]);
         i += 1;
     }
 }
 
 fn facility_record(line: &mut [u8], year: u64, quarter: u64, name: &[u8])
-    requires { ⌜ (length (now line) ≡ lengthOf RecordType.Facility) × (length (now name) ≡ 6) ⌝ }
+    requires { ⌜ (length (now line) ≡ lengthOf RecordType.Facility) × (length (now name) ≡ stackWidth) ⌝ }
     ensures { λ _. ⌜ now (line .exit) ≡ facilityRecord year quarter (now (name .entry)) ⌝ }
 {
     write_heading(line, RecordType::Facility, name);
-    columns::write_digits(line, layout::YEAR_START, layout::YEAR_WIDTH, year);
-    columns::write_digits(line, layout::QUARTER_START, layout::QUARTER_WIDTH, quarter);
+    filling::write_digits(line, layout::YEAR.start, layout::YEAR.width, year);
+    filling::write_digits(line, layout::QUARTER.start, layout::QUARTER.width, quarter);
 }
 
 pub fn recorded_hour(h: SheetHour) -> Hour
@@ -75,9 +72,9 @@ pub fn recorded_hour(h: SheetHour) -> Hour
     }
 }
 
-// The values of an hour in the record of a type that has a date, and zeros behind them.
-fn hour_values(t: RecordType, h: Hour) -> [u64; 4]
-    requires { ⌜ 1 ≤ dateColumn t ⌝ }
+// The values of an hour in its record of a type, and zeros behind them.
+fn hour_values(t: RecordType, h: Hour) -> [u64; layout::MOST_VALUES]
+    requires { ⌜ recordOf t .run ≡ Run.Hourly ⌝ }
     ensures { λ r. ⌜ take (valueCount t) r ≡ hourValues t h ⌝ }
 {
     match t {
@@ -96,16 +93,16 @@ fn hour_values(t: RecordType, h: Hour) -> [u64; 4]
 
 // The record of an hour, whose date is a number of eight digits.
 fn hour_record(line: &mut [u8], t: RecordType, name: &[u8], date: u64, h: Hour)
-    requires { ⌜ (length (now line) ≡ lengthOf t) × (length (now name) ≡ 6) × (1 ≤ dateColumn t) ⌝ }
-    ensures { λ _. ⌜ now (line .exit) ≡ datedRecord (now (name .entry)) t (digitsOf 8 date) h ⌝ }
+    requires { ⌜ (length (now line) ≡ lengthOf t) × (length (now name) ≡ stackWidth) × (recordOf t .run ≡ Run.Hourly) ⌝ }
+    ensures { λ _. ⌜ now (line .exit) ≡ datedRecord (now (name .entry)) t (digitsOf dateWidth date) h ⌝ }
 {
     write_heading(line, t, name);
-    columns::write_digits(line, layout::date_column(t), 8, date);
+    filling::write_digits(line, layout::date_column(t), layout::DATE_WIDTH, date);
     write_values(line, t, hour_values(t, h));
 }
 
 fn totals_record(line: &mut [u8], name: &[u8], q: Quarter)
-    requires { ⌜ (length (now line) ≡ lengthOf RecordType.QuarterTotals) × (length (now name) ≡ 6) ⌝ }
+    requires { ⌜ (length (now line) ≡ lengthOf RecordType.QuarterTotals) × (length (now name) ≡ stackWidth) ⌝ }
     ensures { λ _. ⌜ now (line .exit) ≡ totalsRecord (now (name .entry)) q ⌝ }
 {
     write_heading(line, RecordType::QuarterTotals, name);
@@ -117,7 +114,7 @@ fn totals_record(line: &mut [u8], name: &[u8], q: Quarter)
 }
 
 pub fn write_facility(buffer: &mut [u8], year: u64, quarter: u64, name: &[u8])
-    requires { ⌜ (lengthOf RecordType.Facility < length (now buffer)) × (length (now name) ≡ 6) ⌝ }
+    requires { ⌜ (lengthOf RecordType.Facility < length (now buffer)) × (length (now name) ≡ stackWidth) ⌝ }
     ensures { λ _. ⌜ now (buffer .exit) ≡ put 1 (ended (facilityRecord year quarter (now (name .entry)))) (now (buffer .entry)) ⌝ }
 {
     let end = layout::line_length(RecordType::Facility);
@@ -125,27 +122,28 @@ pub fn write_facility(buffer: &mut [u8], year: u64, quarter: u64, name: &[u8])
     buffer[end] = 10;
 }
 
-// The line of a type of hour k of n.
+// The line of a type of hour k.
 pub fn write_hour(
     buffer: &mut [u8],
-    n: usize,
+    s: Shape,
     k: usize,
     t: RecordType,
     name: &[u8],
     date: u64,
     h: Hour,
 )
-    requires { ⌜ (k < n) × (n ≤ 2208) × (reportBytes n ≤ length (now buffer)) × (length (now name) ≡ 6) × (1 ≤ dateColumn t) ⌝ }
-    ensures { λ _. ⌜ now (buffer .exit) ≡ put (offsetOf (shape n) t k + 1) (ended (datedRecord (now (name .entry)) t (digitsOf 8 date) h)) (now (buffer .entry)) ⌝ }
+    requires { ⌜ HourFits s k (now name) (now buffer) × (recordOf t .run ≡ Run.Hourly) ⌝ }
+    ensures { λ _. ⌜ now (buffer .exit)
+        ≡ put (offsetOf s t k + 1) (ended (datedRecord (now (name .entry)) t (digitsOf dateWidth date) h)) (now (buffer .entry)) ⌝ }
 {
-    let at = layout::offset_of(Shape { hours: n }, t, k);
+    let at = layout::offset_of(s, t, k);
     let end = at + layout::line_length(t);
     hour_record(&mut buffer[at..end], t, name, date, h);
     buffer[end] = 10;
 }
 
 pub fn write_totals(buffer: &mut [u8], at: usize, name: &[u8], q: Quarter)
-    requires { ⌜ (at + lengthOf RecordType.QuarterTotals < length (now buffer)) × (length (now name) ≡ 6) ⌝ }
+    requires { ⌜ (at + lengthOf RecordType.QuarterTotals < length (now buffer)) × (length (now name) ≡ stackWidth) ⌝ }
     ensures { λ _. ⌜ now (buffer .exit) ≡ put (at + 1) (ended (totalsRecord (now (name .entry)) q)) (now (buffer .entry)) ⌝ }
 {
     let end = at + layout::line_length(RecordType::QuarterTotals);

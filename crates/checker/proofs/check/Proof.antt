@@ -1,10 +1,9 @@
 -- `checker::check` meets its contract: the answer is the definition's, and the promise holds of that.
--- Assumes nothing.
 use mathlib.Core.Path.{_≡_, sym, ap, _∙_}
 use mathlib.Core.List.{List}
 use Prim.Native.Nat.{ℕ}
 use Rattle.reading.specs.Reading.{readOf}
-use Rattle.reading.specs.CleanFile.{clean-file}
+use Rattle.reading.specs.CleanFile.{clean-file, clean-hour}
 use Rattle.reading.specs.declared.Reading.{Reading}
 use Rattle.checker.specs.Checked.{afterReading, checked}
 use Rattle.checker.specs.Promise.{Promise}
@@ -31,7 +30,7 @@ judge-requires c κs =
     let file = c .before .before .before .before .before .args .file .now in
     let e = sym (c .before .before .before .read .ensures) ∙ c .before .reading2 .given .1 in
     let f = clean-file file _ e in
-    record { standing = f .standing; within = f .within }
+    record { standing = f .standing; within = clean-hour file _ f }
 
 returns : tie.Need-returns
 unfolding afterReading checked

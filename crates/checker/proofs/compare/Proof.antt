@@ -1,5 +1,4 @@
 -- `checker::compare` meets its contract: the first of the four totals that differs is refused.
--- Assumes nothing.
 use mathlib.Core.Path.{sym, _∙_}
 use Rattle.checker.specs.JudgedLaws.{Agree, totals-agree}
 use Rattle.checker.proofs.Pass.{so2-differs, co2-differs, heat-differs, nox-differs}

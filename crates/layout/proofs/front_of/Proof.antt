@@ -30,8 +30,12 @@ sized-requires-2 c κs = (small (c .before) .bytes, small (c .before) .hourBytes
 
 returns : tie.Need-returns
 returns c =
-    let l = c .before .before in
-    (summed (l .before .args .s) (l .before .args .t) (l .lead-of .result) (c .before .sized .result) (c .sized2 .result) (l .lead-of .ensures) (c .before .sized .ensures .0) (c .sized2 .ensures .0), c .before .sized .ensures .1, c .sized2 .ensures .1)
+    let l = c .before .before in (
+      summed (l .before .args .s) (l .before .args .t) (l .lead-of .result) (c .before .sized .result) (c .sized2 .result) (l .lead-of .ensures)
+          (c .before .sized .ensures .0) (c .sized2 .ensures .0),
+      c .before .sized .ensures .1,
+      c .sized2 .ensures .1,
+    )
 
 pub front-of-spec : {M : Type 1} → statement M
 front-of-spec = tie.close (tie.spec lead-of-requires sized-requires sized-requires-2 returns)

@@ -46,22 +46,28 @@ returns : tie.Need-returns
 returns c = let h : c .before .before .args .i < valueCount Facility = rw (c .enum-told .given .1) at (c .before .before .pre) in absurd (omega arith)
 
 returns-2 : tie.Need-returns-2
-returns-2 c = last So2Concentration 0 (c .before .before .args .t) (c .before .before .args .i) (c .enum-told2 .given .1) refl (c .before .before .pre) (omega arith)
+returns-2 c =
+    last So2Concentration 0 (c .before .before .args .t) (c .before .before .args .i) (c .enum-told2 .given .1) refl (c .before .before .pre) (omega arith)
 
 returns-3 : tie.Need-returns-3
-returns-3 c = last NoxConcentration 0 (c .before .before .args .t) (c .before .before .args .i) (c .enum-told3 .given .1) refl (c .before .before .pre) (omega arith)
+returns-3 c =
+    last NoxConcentration 0 (c .before .before .args .t) (c .before .before .args .i) (c .enum-told3 .given .1) refl (c .before .before .pre) (omega arith)
 
 returns-4 : tie.Need-returns-4
-returns-4 c = last Co2Concentration 0 (c .before .before .args .t) (c .before .before .args .i) (c .enum-told4 .given .1) refl (c .before .before .pre) (omega arith)
+returns-4 c =
+    last Co2Concentration 0 (c .before .before .args .t) (c .before .before .args .i) (c .enum-told4 .given .1) refl (c .before .before .pre) (omega arith)
 
 returns-5 : tie.Need-returns-5
-returns-5 c = last VolumetricFlow 0 (c .before .before .args .t) (c .before .before .args .i) (c .enum-told5 .given .1) refl (c .before .before .pre) (omega arith)
+returns-5 c =
+    last VolumetricFlow 0 (c .before .before .args .t) (c .before .before .args .i) (c .enum-told5 .given .1) refl (c .before .before .pre) (omega arith)
 
 returns-6 : tie.Need-returns-6
 returns-6 c = nth Operation 0 (c .before .enum-told6 .given .1) (c .match2 .keys1)
 
 returns-7 : tie.Need-returns-7
-returns-7 c = last Operation 1 (c .before .before .before .args .t) (c .before .before .before .args .i) (c .before .enum-told6 .given .1) refl (c .before .before .before .pre) (omega arith)
+returns-7 c =
+    last Operation 1 (c .before .before .before .args .t) (c .before .before .before .args .i) (c .before .enum-told6 .given .1) refl
+    (c .before .before .before .pre) (omega arith)
 
 returns-8 : tie.Need-returns-8
 returns-8 c = c .total-at .ensures ∙ ap (λ t. valueAt t (c .before .before .before .args .i)) (sym (c .before .enum-told7 .given .1))
@@ -73,7 +79,9 @@ returns-10 : tie.Need-returns-10
 returns-10 c = nth NoxRate 0 (c .before .enum-told9 .given .1) (c .match3 .keys1)
 
 returns-11 : tie.Need-returns-11
-returns-11 c = last NoxRate 1 (c .before .before .before .args .t) (c .before .before .before .args .i) (c .before .enum-told9 .given .1) refl (c .before .before .before .pre) (omega arith)
+returns-11 c =
+    last NoxRate 1 (c .before .before .before .args .t) (c .before .before .before .args .i) (c .before .enum-told9 .given .1) refl
+    (c .before .before .before .pre) (omega arith)
 
 returns-12 : tie.Need-returns-12
 returns-12 c = last Co2Mass 0 (c .before .before .args .t) (c .before .before .args .i) (c .enum-told10 .given .1) refl (c .before .before .pre) (omega arith)

@@ -1,5 +1,4 @@
 -- The values of one operating hour, each where the layout has it.
--- Assumes nothing.
 use Rattle.reading.specs.Recorded.{hourAt}
 use borrow.Author.Needs.{needs}
 use Rattle.reading.proofs.hour.Statement.{statement}

@@ -1,5 +1,4 @@
 -- The totals on line 301, each where the layout has it.
--- Assumes nothing.
 use Rattle.reading.specs.Recorded.{totalsIn}
 use Rattle.reading.specs.RecordLaws.{hours-standing}
 use borrow.Author.Needs.{needs}

@@ -1,16 +1,19 @@
--- `writer::write` meets its contract: a refusal writes nothing, and a sheet that is not refused gives its report. Assumes nothing.
+-- `writer::write` meets its contract: a refusal writes nothing, and a sheet that is not refused gives its report.
+use Prim.Native.Nat.{_≤_}
+use mathlib.Core.Path.{_≡_, sym}
 use lib.ListN.{length}
-use mathlib.Core.Path.{_≡_, sym, _∙_}
-use native.Mathlib.Omega.{arith}
+use borrow.Author.Needs.{needs}
+use Rattle.layout.specs.Layout.{stackWidth, reportLength}
+use Rattle.sheet.specs.Sheet.{shapeOf}
+use Rattle.writer.specs.Writable.{Writable}
 use Rattle.writer.specs.RefusalLaws.{not-refused}
 use Rattle.writer.proofs.Answer.{refused, accepted}
-use borrow.Author.Needs.{needs}
 use Rattle.writer.proofs.write.Statement.{statement}
 use Rattle.writer.proofs.write.Tie as tie
 
--- the name is an array of six bytes
-six-bytes : (c : tie.Start) → length (c .args .t3) ≡ 6
-six-bytes c = search needs
+-- the name is an array
+named : (c : tie.Start) → length (c .args .t3) ≡ stackWidth
+named c = search needs
 
 slice-aggregate-refusal : tie.Need-slice-aggregate-refusal
 slice-aggregate-refusal c = search needs
@@ -24,40 +27,39 @@ returns c =
     let r = c .before .refusal in
     refused (x .year) (x .quarter) (x .t3) (x .sheet .now) (x .buffer .now) (r .result) (r .ensures) (c .if1 .taken)
 
+-- nothing is refused
+fine : (c : tie.Else1) →
+    let x = c .before .before .before .before .before .args in
+    Writable (x .year) (x .quarter) (x .t3) (x .sheet .now) × (reportLength (shapeOf (x .sheet .now)) ≤ length (x .buffer .now))
+fine c =
+    let x = c .before .before .before .before .before .args in
+    not-refused (x .year) (x .quarter) (x .t3) (x .sheet .now) (length (x .buffer .now)) (rw (c .before .refusal .ensures) at (c .if1 .left))
+
 slice-aggregate-write-report : tie.Need-slice-aggregate-write-report
 slice-aggregate-write-report c = search needs
 
 write-report-requires : tie.Need-write-report-requires
 write-report-requires c κs =
     let i = c .before .before in
-    let r = i .before .refusal in
-    let x = i .before .before .before .before .before .args in
-    let z : r .result ≡ 0 = omega arith in
-    let w = not-refused (x .year) (x .quarter) (x .t3) (x .sheet .now) (length (x .buffer .now)) (sym (r .ensures) ∙ z) in
-    record { writable = w .0; six = search needs; room = w .1 }
+    record { writable = fine i .0; named = named (i .before .before .before .before .before); room = fine i .1 }
 
-report-bytes-requires : tie.Need-report-bytes-requires
-report-bytes-requires c κs =
-    let i = c .before .before .before .before .before in
-    let r = i .before .refusal in
-    let x = i .before .before .before .before .before .args in
-    let z : r .result ≡ 0 = omega arith in
-    not-refused (x .year) (x .quarter) (x .t3) (x .sheet .now) (length (x .buffer .now)) (sym (r .ensures) ∙ z) .0 .recordable .few
+shape-of-requires : tie.Need-shape-of-requires
+shape-of-requires c κs = search needs
+
+report-length-requires : tie.Need-report-length-requires
+report-length-requires c κs = rw (c .shape-of .ensures) (fine (c .before .before .before .before .before .before) .0 .held)
 
 same-length : tie.Need-same-length
 same-length c = search needs
 
 returns-2 : tie.Need-returns-2
 returns-2 c =
-    let w = c .before .before .before in
+    let w = c .before .before .before .before in
     let i = w .before .before .before in
-    let r = i .before .refusal in
     let s = i .before .before .before .before .before in
     let x = s .args in
-    let z : 0 ≡ r .result = omega arith in
-    let six : length (x .t3) ≡ 6 = six-bytes s in
-    rw (c .report-bytes .ensures, w .write-report .ensures)
-    (accepted (x .year) (x .quarter) (x .t3) (x .sheet .now) (x .buffer .now) (z ∙ r .ensures) six)
+    rw (c .report-length .ensures .0, c .before .shape-of .ensures, w .write-report .ensures)
+    (accepted (x .year) (x .quarter) (x .t3) (x .sheet .now) (x .buffer .now) (sym (rw (i .before .refusal .ensures) at (i .if1 .left))) (named s))
 
 pub write-spec : {M : Type 1} → statement M
 write-spec =
@@ -68,6 +70,7 @@ write-spec =
     returns
     slice-aggregate-write-report
     write-report-requires
-    report-bytes-requires
+    shape-of-requires
+    report-length-requires
     same-length
     returns-2)

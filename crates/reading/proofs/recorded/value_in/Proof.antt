@@ -1,12 +1,10 @@
 -- A recorded value: the number in its columns, counted from the start of the file.
--- Assumes nothing.
 use Prim.Native.Nat.{_+_, _≤_}
 use native.Mathlib.Omega.{arith}
 use lib.ListN.{length}
 use Rattle.layout.specs.Layout.{lengthOf, offsetOf}
-use Rattle.reading.specs.Places.{Placed}
+use Rattle.layout.specs.ValueLaws.{ValueInside, value-inside}
 use Rattle.reading.specs.RecordLaws.{room-for, value-at}
-use Rattle.reading.proofs.Values.{placed}
 use borrow.Author.Needs.{needs}
 use Rattle.reading.proofs.recorded.value_in.Statement.{statement}
 use Rattle.reading.proofs.recorded.value_in.Tie as tie
@@ -14,10 +12,13 @@ use Rattle.reading.proofs.recorded.value_in.Tie as tie
 fits : (c : tie.Start) → (offsetOf (c .args .s) (c .args .t) (c .args .k) + lengthOf (c .args .t) ≤ length (c .args .file .now)) × (c .args .k ≤ 2208)
 fits c = room-for (c .args .file .now) (c .args .s) (c .pre .0) (c .args .t) (c .args .k) (c .pre .1)
 
-inside : (c : tie.After-struct-known) → Placed (c .before .before .value-at .result) (lengthOf (c .before .before .before .before .args .t))
-inside c = rw (c .before .before .value-at .ensures) (placed (c .before .before .before .before .args .t) (c .before .before .before .before .args .i) (omega arith))
+inside : (c : tie.After-struct-known) → ValueInside (c .before .before .before .before .args .t) (c .before .before .value-at .result)
+inside c =
+    rw (c .before .before .value-at .ensures) (value-inside (c .before .before .before .before .args .t) (c .before .before .before .before .args .i)
+    (omega arith))
 
-room : (c : tie.After-struct-known) → c .before .offset-of .result + lengthOf (c .before .before .before .before .args .t) ≤ length (c .before .before .before .before .args .file .now)
+room : (c : tie.After-struct-known) →
+    c .before .offset-of .result + lengthOf (c .before .before .before .before .args .t) ≤ length (c .before .before .before .before .args .file .now)
 room c = rw (c .before .offset-of .ensures) (fits (c .before .before .before .before) .0)
 
 value-at-requires : tie.Need-value-at-requires

@@ -1,5 +1,4 @@
 -- The date of the 200 line of a rank, for a type that has a line for every operating hour.
--- Assumes nothing.
 use Prim.Native.Nat.{_<_}
 use mathlib.Core.Path.{sym, _∙_}
 use native.Mathlib.Omega.{arith}

@@ -1,61 +1,86 @@
 -- The 200 lines: with each of them, what is left to walk is what the whole was; hours rise, so there are at most 2,208.
--- Assumes nothing.
-use Prim.Native.Nat.{_-_, _≤_}
-use mathlib.Core.Path.{_≡_, sym, _∙_}
+use Prim.Native.Nat.{ℕ, _+_, _-_, _≤_}
+use mathlib.Core.Path.{_≡_, sym, ap, _∙_}
 use mathlib.Core.Bool.{true}
+use mathlib.Core.List.{List}
 use native.Mathlib.Omega.{arith}
 use borrow.Author.Needs.{needs}
 use borrow.Author.Tests.{not-true, not-false}
-use lib.ListN.{length, take, drop, length-drop}
+use lib.ListN.{length, take, drop}
 use lib.Seq.{length-take-le}
-use Rattle.stamp.specs.Stamp.{stampHour}
-use Rattle.layout.specs.declared.RecordType.the-variants.{So2Concentration}
-use Rattle.reading.specs.Lines.{firstLine}
-use Rattle.reading.specs.LineFaults.{typeIs, hourFault, dateOn}
-use Rattle.reading.specs.Reading.{hourAfter}
-use Rattle.reading.specs.Places.{Heads, facilityOf}
+use Rattle.layout.specs.Layout.{lengthOf}
+use Rattle.layout.specs.declared.RecordType.the-variants.{Facility, So2Concentration}
+use Rattle.lines.specs.Lines.{firstLine}
+use Rattle.lines.specs.LineFaults.{typeIs, hourLine}
+use Rattle.lines.specs.declared.Period.{Period}
+use Rattle.lines.specs.declared.HourLine.{HourLine}
+use Rattle.reading.specs.Places.{facilityOf}
 use Rattle.reading.proofs.Walking.{rest-part}
-use Rattle.reading.proofs.Rising.{Rising, rising-start, rising-counted, rising-end, rising-other, rising-found, rising-room, rising-next}
+use Rattle.reading.proofs.Rising.{Rising, rising-start, rising-counted, rising-end, rising-other, rising-found, rising-room, rising-below, rising-next}
 use Rattle.reading.proofs.walk.walk_hours.Statement.{statement}
 use Rattle.reading.proofs.walk.walk_hours.Tie as tie
 
 abbrev Inv-loop : tie.InvT-loop
-Inv-loop file facility year quarter n₀ from₀ at₀ n from at = Rising file n from at
+Inv-loop file period facility n₀ from₀ at₀ n from at = Rising file period n from at
 
 abbrev μ-loop : tie.MeasureT-loop
-μ-loop file facility year quarter n₀ from₀ at₀ n from at = length file - at
+μ-loop file period facility n₀ from₀ at₀ n from at = length file - at
 
-long : (c : tie.Start Inv-loop μ-loop) → length (take 14 (c .args .file .now)) ≡ 14
-long c = length-take-le 14 (c .args .file .now) (omega arith)
+-- where the loop stands
+module _ (c : tie.At-loop Inv-loop μ-loop) where
+  abbrev file : List ℕ
+  file = c .before .before .before .args .file .now
 
-heads : (c : tie.After-quarter-on Inv-loop μ-loop) → Heads (facilityOf (c .before .before .before .before .args .file .now)) (c .before .year-on .result) (c .quarter-on .result)
-heads c = record { long = omega (arith, long (c .before .before .before .before)); year = c .before .year-on .ensures; quarter = c .quarter-on .ensures; valid = rw (c .quarter-on .ensures) (c .before .before .before .before .pre .1) }
+  abbrev period : Period
+  period = c .before .before .before .args .period
 
-typed : (c : tie.After-type-is Inv-loop μ-loop) → c .type-is .result ≡ typeIs So2Concentration (firstLine (drop (c .before .before .before .loop .at) (c .before .before .before .before .before .before .before .before .args .file .now)))
-typed c = c .type-is .ensures ∙ rw rest-part
+  -- the line that it has come to
+  abbrev line : List ℕ
+  line = firstLine (drop (c .loop .at) file)
 
-right : (c : tie.Else1 Inv-loop μ-loop) → typeIs So2Concentration (firstLine (drop (c .before .before .before .before .loop .at) (c .before .before .before .before .before .before .before .before .before .args .file .now))) ≡ true
+-- its type was looked at
+abbrev stood : tie.After-type-is Inv-loop μ-loop → tie.At-loop Inv-loop μ-loop
+stood c = c .before .before .before
+
+typed : (c : tie.After-type-is Inv-loop μ-loop) → c .type-is .result ≡ typeIs So2Concentration (line (stood c))
+typed c = c .type-is .ensures ∙ ap (λ (l : List ℕ). typeIs So2Concentration (firstLine l)) (rest-part (stood c .loop .at) (file (stood c)))
+
+right : (c : tie.Else1 Inv-loop μ-loop) → typeIs So2Concentration (line (stood (c .before))) ≡ true
 right c = sym (typed (c .before)) ∙ not-false _ (c .if1 .left)
 
-told : (c : tie.After-hour-fault Inv-loop μ-loop) → c .hour-fault .result ≡ hourFault (facilityOf (c .before .before .before .before .before .before .before .before .before .before .args .file .now)) (c .before .before .before .before .before .loop .from) (firstLine (drop (c .before .before .before .before .before .loop .at) (c .before .before .before .before .before .before .before .before .before .before .args .file .now)))
-told c = c .hour-fault .ensures ∙ rw rest-part
+-- it was read as a 200 line
+abbrev named : tie.After-hour-line Inv-loop μ-loop → tie.At-loop Inv-loop μ-loop
+named c = stood (c .before .before)
 
-forty : (c : tie.Else2 Inv-loop μ-loop) → 40 ≤ length (take (length (c .before .before .before .before .before .before .before .before .before .before .before .args .file .now) - c .before .before .before .before .before .before .loop .at) (drop (c .before .before .before .before .before .before .loop .at) (c .before .before .before .before .before .before .before .before .before .before .before .args .file .now)))
-forty c =
-    let l = c .before .before .before .before .before .before .loop in
-    rw (rest-part, length-drop) (omega (arith, rising-room (c .before .before .before .before .before .before .before .before .before .before .before .args .file .now) (l .n) (l .from) (l .at) (l .inv) (c .before .before .before .before .before .loop-test .taken) (right (c .before .before)) (c .before .hour-fault .result) (told (c .before)) (c .if2 .left)))
+told : (c : tie.After-hour-line Inv-loop μ-loop) (h : HourLine) → c .hour-line .result ≡ h →
+    hourLine (facilityOf (file (named c))) (period (named c)) (named c .loop .from) (line (named c)) ≡ h
+told c h e =
+    ap (λ (l : List ℕ). hourLine (facilityOf (file (named c))) (period (named c)) (named c .loop .from) (firstLine l))
+    (sym (rest-part (named c .loop .at) (file (named c))))
+    ∙ sym (c .hour-line .ensures) ∙ e
+
+-- and names an hour
+abbrev found : tie.After-known-told2 Inv-loop μ-loop → tie.After-hour-line Inv-loop μ-loop
+found c = c .before .before .before
+
+abbrev hour : tie.After-known-told2 Inv-loop μ-loop → ℕ
+hour c = c .before .line2 .given .0 .0
+
+next : (c : tie.After-known-told2 Inv-loop μ-loop) →
+    Rising (file (named (found c))) (period (named (found c))) (named (found c) .loop .n + 1) (hour c + 1)
+    (named (found c) .loop .at + (lengthOf So2Concentration + 1))
+next c =
+    let h = found c in
+    let l = named h .loop in
+    rising-next (file (named h)) (period (named h)) (l .n) (l .from) (l .at) (l .inv) (h .before .before .before .before .loop-test .taken)
+    (right (h .before)) (hour c) (told h _ (c .before .line2 .given .1))
+    (named h .before .before .before .pre .1)
 
 slice-aggregate-facility : tie.Need-slice-aggregate-facility Inv-loop μ-loop
-slice-aggregate-facility c = sym (length-take-le 14 (c .before .before .args .file .now) (omega arith))
-
-year-on-requires : tie.Need-year-on-requires Inv-loop μ-loop
-year-on-requires c κs = omega (arith, long (c .before .before))
-
-quarter-on-requires : tie.Need-quarter-on-requires Inv-loop μ-loop
-quarter-on-requires c κs = omega (arith, long (c .before .before .before))
+slice-aggregate-facility c = sym (length-take-le (lengthOf Facility) (c .before .before .args .file .now) (c .before .before .pre .0))
 
 loop-holds : tie.Need-loop-holds Inv-loop μ-loop
-loop-holds c = rising-start (c .before .before .before .before .args .file .now) (c .before .before .before .before .pre .0)
+loop-holds c = rising-start (c .before .before .args .file .now) (c .before .before .args .period) (c .before .before .pre .0)
 
 sub-rest : tie.Need-sub-rest Inv-loop μ-loop
 sub-rest c = omega arith
@@ -71,55 +96,67 @@ type-is-requires c κs = search needs
 
 walk-later-requires : tie.Need-walk-later-requires Inv-loop μ-loop
 walk-later-requires c κs =
-    let l = c .before .before .before .before .loop in
-    rising-counted (c .before .before .before .before .before .before .before .before .before .args .file .now) (l .n) (l .from) (l .at) (l .inv)
+    let o = stood (c .before) in
+    rising-counted (file o) (period o) (o .loop .n) (o .loop .from) (o .loop .at) (o .loop .inv)
 
 returns : tie.Need-returns Inv-loop μ-loop
 returns c =
-    let l = c .before .before .before .before .before .loop in
-    c .walk-later .ensures ∙ rising-other (c .before .before .before .before .before .before .before .before .before .before .args .file .now) (l .n) (l .from) (l .at) (l .inv) (c .before .before .before .before .loop-test .taken) (sym (typed (c .before .before)) ∙ not-true _ (c .before .if1 .taken))
+    let k = c .before .before in
+    let o = stood k in
+    c .walk-later .ensures
+    ∙ rising-other (file o) (period o) (o .loop .n) (o .loop .from) (o .loop .at) (o .loop .inv) (k .before .before .loop-test .taken)
+    (sym (typed k) ∙ not-true _ (c .before .if1 .taken))
 
-hour-fault-requires : tie.Need-hour-fault-requires Inv-loop μ-loop
-hour-fault-requires c κs = heads (c .before .before .before .before .before)
+hour-line-requires : tie.Need-hour-line-requires Inv-loop μ-loop
+hour-line-requires c κs =
+    let x = stood (c .before) .before .before .before in
+    (omega (arith, length-take-le (lengthOf Facility) (x .args .file .now) (x .pre .0)), x .pre .1)
+
+enum-known-line : tie.Need-enum-known-line Inv-loop μ-loop
+enum-known-line c = search needs
 
 add-refused : tie.Need-add-refused Inv-loop μ-loop
-add-refused c = omega (arith, c .before .before .before .before .before .before .loop .inv .rise)
+add-refused c = omega (arith, named (c .before .before .before) .loop .inv .rise, named (c .before .before .before) .loop .inv .most)
 
 refused-requires : tie.Need-refused-requires Inv-loop μ-loop
 refused-requires c κs = search needs
 
 returns-2 : tie.Need-returns-2 Inv-loop μ-loop
 returns-2 c =
-    let l = c .before .before .before .before .before .before .before .loop in
-    c .refused .ensures ∙ rising-found (c .before .before .before .before .before .before .before .before .before .before .before .before .args .file .now) (l .n) (l .from) (l .at) (l .inv) (c .before .before .before .before .before .before .loop-test .taken) (right (c .before .before .before)) (c .before .before .hour-fault .result) (told (c .before .before)) (λ e. omega arith)
+    let h = c .before .before .before .before in
+    let o = named h in
+    c .refused .ensures
+    ∙ rising-found (file o) (period o) (o .loop .n) (o .loop .from) (o .loop .at) (o .loop .inv) (h .before .before .before .before .loop-test .taken)
+    (right (h .before)) _
+    (told h _ (c .before .before .line .given .1))
 
-hour-after-requires : tie.Need-hour-after-requires Inv-loop μ-loop
-hour-after-requires c κs = (forty c, heads (c .before .before .before .before .before .before .before) .valid)
+enum-known-line-2 : tie.Need-enum-known-line-2 Inv-loop μ-loop
+enum-known-line-2 c = search needs
+
+add-from : tie.Need-add-from Inv-loop μ-loop
+add-from c = omega (arith, next c .most)
 
 add-n : tie.Need-add-n Inv-loop μ-loop
-add-n c = omega (arith, c .before .before .before .before .before .before .before .loop .inv .rise)
+add-n c = omega (arith, next c .rise, next c .most)
 
 add-at : tie.Need-add-at Inv-loop μ-loop
-add-at c = omega (arith, c .before .before .before .before .before .before .before .loop .inv .rise)
+add-at c = omega (arith, next c .place, next c .room, next c .rise, next c .most)
 
 loop-less : tie.Need-loop-less Inv-loop μ-loop
 loop-less c = omega arith
 
 loop-again : tie.Need-loop-again Inv-loop μ-loop
-loop-again c =
-    let l = c .before .before .before .before .before .before .before .loop in
-    let g : c .hour-after .result ≡ hourAfter (stampHour (c .before .before .before .before .before .before .before .before .before .year-on .result) (c .before .before .before .before .before .before .before .before .quarter-on .result) (dateOn (drop (l .at) (c .before .before .before .before .before .before .before .before .before .before .before .before .args .file .now)))) = c .hour-after .ensures .0 ∙ rw rest-part in
-    rising-next (c .before .before .before .before .before .before .before .before .before .before .before .before .args .file .now) (l .n) (l .from) (l .at) (l .inv) (c .before .before .before .before .before .before .loop-test .taken) (right (c .before .before .before)) (c .before .before .hour-fault .result) (told (c .before .before)) (c .before .if2 .left) (c .before .before .before .before .before .before .before .before .before .year-on .result) (c .before .before .before .before .before .before .before .before .quarter-on .result) (c .hour-after .result) (heads (c .before .before .before .before .before .before .before .before)) g (c .hour-after .ensures .1)
+loop-again c = next c
 
 walk-later-requires-2 : tie.Need-walk-later-requires-2 Inv-loop μ-loop
 walk-later-requires-2 c κs =
-    let l = c .before .loop in
-    rising-counted (c .before .before .before .before .before .before .args .file .now) (l .n) (l .from) (l .at) (l .inv)
+    let o = c .before in
+    rising-counted (file o) (period o) (o .loop .n) (o .loop .from) (o .loop .at) (o .loop .inv)
 
 returns-3 : tie.Need-returns-3 Inv-loop μ-loop
 returns-3 c =
-    let l = c .before .before .loop in
-    c .walk-later2 .ensures ∙ rising-end (c .before .before .before .before .before .before .before .args .file .now) (l .n) (l .from) (l .at) (l .inv) (omega arith)
+    let o = c .before .before in
+    c .walk-later2 .ensures ∙ rising-end (file o) (period o) (o .loop .n) (o .loop .from) (o .loop .at) (o .loop .inv) (omega arith)
 
 pub walk-hours-spec : {M : Type 1} → statement M
 walk-hours-spec =
@@ -128,8 +165,6 @@ walk-hours-spec =
     Inv-loop
     μ-loop
     slice-aggregate-facility
-    year-on-requires
-    quarter-on-requires
     loop-holds
     sub-rest
     part-rest-start
@@ -137,11 +172,13 @@ walk-hours-spec =
     type-is-requires
     walk-later-requires
     returns
-    hour-fault-requires
+    hour-line-requires
+    enum-known-line
     add-refused
     refused-requires
     returns-2
-    hour-after-requires
+    enum-known-line-2
+    add-from
     add-n
     add-at
     loop-less

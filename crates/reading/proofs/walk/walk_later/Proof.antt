@@ -1,16 +1,18 @@
 -- The lines behind the 200 lines: with each line, what is left to do against what is due is what the whole was.
--- Assumes nothing.
-use Prim.Native.Nat.{_+_, _-_, _≤_, _<_}
+use Prim.Native.Nat.{ℕ, _+_, _-_, _≤_, _<_}
 use mathlib.Core.Path.{_≡_, sym, _∙_}
-use mathlib.Core.List.{_++_}
+use mathlib.Core.List.{List, _++_}
 use native.Mathlib.Omega.{arith}
 use borrow.Author.Needs.{needs}
 use lib.ListN.{length, take, drop}
 use lib.Seq.{length-take-le}
-use Rattle.layout.specs.Layout.{countOf, shape}
-use Rattle.reading.specs.Lines.{firstLine}
-use Rattle.reading.specs.LineFaults.{dueFault}
-use Rattle.reading.specs.Reading.{laterTypes, dueOf, runOf, runsOf, reportOf}
+use Rattle.layout.specs.Layout.{lengthOf, order, countOf, shape}
+use Rattle.layout.specs.declared.RecordType.{RecordType}
+use Rattle.layout.specs.declared.RecordType.the-variants.{Facility}
+use Rattle.lines.specs.Lines.{firstLine}
+use Rattle.lines.specs.LineFaults.{dueOf, dueFault}
+use Rattle.lines.specs.declared.Period.{Period}
+use Rattle.reading.specs.Reading.{runOf, runsOf, reportOf}
 use Rattle.reading.specs.Places.{facilityOf, datesIn, dateDue}
 use Rattle.reading.specs.declared.Reading.the-variants.{Clean}
 use Rattle.reading.proofs.Runs.{dates-length}
@@ -19,37 +21,101 @@ use Rattle.reading.proofs.walk.walk_later.Statement.{statement}
 use Rattle.reading.proofs.walk.walk_later.Tie as tie
 
 abbrev Inv-loop2 : tie.InvT-loop2
-Inv-loop2 file n facility at₀ line₀ place t count k₀ at line k =
-    (k ≤ count) × Walked file n at line (drop k (runOf t (datesIn file n)) ++ runsOf (drop (place + 1) laterTypes) (datesIn file n))
+Inv-loop2 file period n facility at₀ line₀ place t count k₀ at line k =
+    (k ≤ count) × Walked file period n at line (drop k (runOf t (datesIn file n)) ++ runsOf (drop (place + 1) order) (datesIn file n))
 
 abbrev μ-loop2 : tie.MeasureT-loop2
-μ-loop2 file n facility at₀ line₀ place t count k₀ at line k = count - k
+μ-loop2 file period n facility at₀ line₀ place t count k₀ at line k = count - k
 
 abbrev Inv-loop : tie.InvT-loop
-Inv-loop file n facility at₀ line₀ place₀ at line place =
-    (place ≤ 8) × Walked file n at line (runsOf (drop place laterTypes) (datesIn file n))
+Inv-loop file period n facility at₀ line₀ place₀ at line place =
+    (place ≤ length order) × Walked file period n at line (runsOf (drop place order) (datesIn file n))
 
 abbrev μ-loop : tie.MeasureT-loop
-μ-loop file n facility at₀ line₀ place₀ at line place = 8 - place
+μ-loop file period n facility at₀ line₀ place₀ at line place = length order - place
 
-long : (c : tie.Start Inv-loop2 μ-loop2 Inv-loop μ-loop) → length (take 14 (c .args .file .now)) ≡ 14
-long c = length-take-le 14 (c .args .file .now) (omega arith)
+abbrev Start : Type 0
+Start = tie.Start Inv-loop2 μ-loop2 Inv-loop μ-loop
 
-inside : (c : tie.In-loop2 Inv-loop2 μ-loop2 Inv-loop μ-loop) → c .before .loop2 .k < countOf (shape (c .before .before .before .before .before .before .before .before .args .n)) (c .before .before .before .later-type .result)
-inside c = omega (arith, c .before .before .count-of .ensures)
+abbrev Outer : Type 0
+Outer = tie.At-loop Inv-loop2 μ-loop2 Inv-loop μ-loop
+
+abbrev Inner : Type 0
+Inner = tie.At-loop2 Inv-loop2 μ-loop2 Inv-loop μ-loop
+
+long : (c : Start) → length (take (lengthOf Facility) (c .args .file .now)) ≡ lengthOf Facility
+long c = length-take-le (lengthOf Facility) (c .args .file .now) (omega arith)
+
+-- the fault of a line, from the date and the rest that were looked at
+fault-of : (facility : List ℕ) (t : RecordType) {date date′ rest rest′ : List ℕ} {f : ℕ} → f ≡ dueFault facility (dueOf t date′) (firstLine rest′) →
+    date′ ≡ date → rest′ ≡ rest →
+    f ≡ dueFault facility (dueOf t date) (firstLine rest)
+fault-of facility t e d r = rw (← d, ← r) e
+
+-- where the outer loop stands
+abbrev entry : Outer → Start
+entry c = c .before .before .before
+
+module _ (c : Outer) where
+  abbrev file : List ℕ
+  file = entry c .args .file .now
+
+  abbrev period : Period
+  period = entry c .args .period
+
+  abbrev hours : ℕ
+  hours = entry c .args .n
+
+-- where the inner loop stands
+abbrev outer : Inner → Outer
+outer c = c .before .before .before .before
+
+abbrev type : Inner → RecordType
+type c = c .before .before .type-at .result
+
+abbrev counted : (c : Inner) → c .before .count-of .result ≡ countOf (shape (hours (outer c))) (type c)
+counted c = c .before .count-of .ensures
+
+-- a line of the type is due
+abbrev due : tie.In-loop2 Inv-loop2 μ-loop2 Inv-loop μ-loop → Inner
+due c = c .before
+
+inside : (c : tie.In-loop2 Inv-loop2 μ-loop2 Inv-loop μ-loop) → due c .loop2 .k < countOf (shape (hours (outer (due c)))) (type (due c))
+inside c = omega (arith, counted (due c))
+
+-- it was tried
+abbrev tried : tie.After-due-fault Inv-loop2 μ-loop2 Inv-loop μ-loop → tie.In-loop2 Inv-loop2 μ-loop2 Inv-loop μ-loop
+tried c = c .before .before .before .before
 
 told : (c : tie.After-due-fault Inv-loop2 μ-loop2 Inv-loop μ-loop) →
-    c .due-fault .result ≡ dueFault (facilityOf (c .before .before .before .before .before .before .before .before .before .before .before .before .args .file .now)) (dueOf (c .before .before .before .before .before .before .before .later-type .result) (dateDue (c .before .before .before .before .before .before .before .before .before .before .before .before .args .file .now) (c .before .before .before .before .before .before .before .later-type .result) (c .before .before .before .before .before .loop2 .k))) (firstLine (drop (c .before .before .before .before .before .loop2 .at) (c .before .before .before .before .before .before .before .before .before .before .before .before .args .file .now)))
-told c = c .due-fault .ensures ∙ rw (c .before .before .date-due .ensures, rest-part)
+    c .due-fault .result
+    ≡ dueFault (facilityOf (file (outer (due (tried c))))) (dueOf (type (due (tried c)))
+    (dateDue (file (outer (due (tried c)))) (type (due (tried c))) (due (tried c) .loop2 .k)))
+    (firstLine (drop (due (tried c) .loop2 .at) (file (outer (due (tried c))))))
+told c =
+    fault-of (facilityOf (file (outer (due (tried c))))) (type (due (tried c))) (c .due-fault .ensures) (c .before .before .date-due .ensures)
+    (rest-part (due (tried c) .loop2 .at) (file (outer (due (tried c)))))
 
-room : (c : tie.After-line-length Inv-loop2 μ-loop2 Inv-loop μ-loop) → c .before .before .before .before .before .before .before .loop2 .at + c .line-length .result ≤ length (c .before .before .before .before .before .before .before .before .before .before .before .before .before .before .args .file .now)
+-- it has no fault, and its length is known
+abbrev passed : tie.After-line-length Inv-loop2 μ-loop2 Inv-loop μ-loop → tie.After-due-fault Inv-loop2 μ-loop2 Inv-loop μ-loop
+passed c = c .before .before
+
+abbrev here : tie.After-line-length Inv-loop2 μ-loop2 Inv-loop μ-loop → Inner
+here c = due (tried (passed c))
+
+room : (c : tie.After-line-length Inv-loop2 μ-loop2 Inv-loop μ-loop) → here c .loop2 .at + c .line-length .result ≤ length (file (outer (here c)))
 room c =
-    let l = c .before .before .before .before .before .before .before .loop2 in
-    let x = c .before .before .before .before .before .before .before .before .before .before .before .before .before .before .args in
-    rw (c .line-length .ensures .0) (walked-room (x .file .now) (x .n) (l .at) (l .line) (c .before .before .before .before .before .before .before .before .before .later-type .result) (l .k) _ (l .inv .1) (inside (c .before .before .before .before .before .before)) (omega arith) (c .before .before .due-fault .result) (told (c .before .before)) (c .before .if2 .left))
+    let l = here c .loop2 in
+    let o = outer (here c) in
+    let d = passed c in
+    let r =
+    walked-room (file o) (period o) (hours o) (l .at) (l .line) (type (here c)) (l .k) _ (l .inv .1) (inside (tried d)) (omega arith)
+    (d .due-fault .result) (told d) (c .before .if2 .left)
+    in
+    omega (arith, r, c .line-length .ensures .0)
 
 slice-aggregate-facility : tie.Need-slice-aggregate-facility Inv-loop2 μ-loop2 Inv-loop μ-loop
-slice-aggregate-facility c = sym (length-take-le 14 (c .before .before .args .file .now) (omega arith))
+slice-aggregate-facility c = sym (length-take-le (lengthOf Facility) (c .before .before .args .file .now) (omega arith))
 
 mul-at : tie.Need-mul-at Inv-loop2 μ-loop2 Inv-loop μ-loop
 mul-at c = omega arith
@@ -60,34 +126,41 @@ add-at c = omega arith
 add-line : tie.Need-add-line Inv-loop2 μ-loop2 Inv-loop μ-loop
 add-line c = omega arith
 
+add-place : tie.Need-add-place Inv-loop2 μ-loop2 Inv-loop μ-loop
+add-place c = search needs
+
 loop-holds : tie.Need-loop-holds Inv-loop2 μ-loop2 Inv-loop μ-loop
 loop-holds c =
     let x = c .before .before in
-    (omega arith, walked-start (x .args .file .now) (x .args .n) (x .pre))
+    (omega arith, walked-start (x .args .file .now) (x .args .period) (x .args .n) (x .pre))
 
-later-type-requires : tie.Need-later-type-requires Inv-loop2 μ-loop2 Inv-loop μ-loop
-later-type-requires c κs = search needs
+type-at-requires : tie.Need-type-at-requires Inv-loop2 μ-loop2 Inv-loop μ-loop
+type-at-requires c κs = c .loop-test .taken
 
 count-of-requires : tie.Need-count-of-requires Inv-loop2 μ-loop2 Inv-loop μ-loop
 count-of-requires c κs = search needs
 
 loop2-holds : tie.Need-loop2-holds Inv-loop2 μ-loop2 Inv-loop μ-loop
 loop2-holds c =
-    let l = c .before .before .before .loop in
-    let x = c .before .before .before .before .before .before .args in
-    (omega arith, walked-type (x .file .now) (x .n) (l .at) (l .line) (l .place) (c .before .later-type .result) (c .before .before .loop-test .taken) (c .before .later-type .ensures) (l .inv .1))
+    let o = c .before .before .before in
+    let l = o .loop in (
+      omega arith,
+      walked-type (file o) (period o) (hours o) (l .at) (l .line) (l .place) (c .before .type-at .result) (c .before .before .loop-test .taken)
+          (c .before .type-at .ensures) (l .inv .1),
+    )
 
 refused-requires : tie.Need-refused-requires Inv-loop2 μ-loop2 Inv-loop μ-loop
 refused-requires c κs = search needs
 
 returns : tie.Need-returns Inv-loop2 μ-loop2 Inv-loop μ-loop
 returns c =
-    let l = c .before .before .before .loop2 in
-    let x = c .before .before .before .before .before .before .before .before .before .before .args in
-    c .refused .ensures ∙ walked-missing (x .file .now) (x .n) (l .at) (l .line) (c .before .before .before .before .before .later-type .result) (l .k) _ (l .inv .1) (inside (c .before .before)) (c .before .if1 .taken)
+    let i = c .before .before in
+    let l = due i .loop2 in
+    let o = outer (due i) in
+    c .refused .ensures ∙ walked-missing (file o) (period o) (hours o) (l .at) (l .line) (type (due i)) (l .k) _ (l .inv .1) (inside i) (c .before .if1 .taken)
 
 date-due-requires : tie.Need-date-due-requires Inv-loop2 μ-loop2 Inv-loop μ-loop
-date-due-requires c κs = (c .before .before .before .before .before .before .before .before .before .pre, inside (c .before))
+date-due-requires c κs = (entry (outer (due (c .before))) .pre, inside (c .before))
 
 sub-due-fault : tie.Need-sub-due-fault Inv-loop2 μ-loop2 Inv-loop μ-loop
 sub-due-fault c = omega arith
@@ -99,16 +172,19 @@ part-due-fault-end : tie.Need-part-due-fault-end Inv-loop2 μ-loop2 Inv-loop μ-
 part-due-fault-end c = omega arith
 
 due-fault-requires : tie.Need-due-fault-requires Inv-loop2 μ-loop2 Inv-loop μ-loop
-due-fault-requires c κs = omega (arith, long (c .before .before .before .before .before .before .before .before .before .before .before))
+due-fault-requires c κs = omega (arith, long (entry (outer (due (c .before .before .before)))))
 
 refused-requires-2 : tie.Need-refused-requires-2 Inv-loop2 μ-loop2 Inv-loop μ-loop
 refused-requires-2 c κs = search needs
 
 returns-2 : tie.Need-returns-2 Inv-loop2 μ-loop2 Inv-loop μ-loop
 returns-2 c =
-    let l = c .before .before .before .before .before .before .before .loop2 in
-    let x = c .before .before .before .before .before .before .before .before .before .before .before .before .before .before .args in
-    c .refused2 .ensures ∙ walked-found (x .file .now) (x .n) (l .at) (l .line) (c .before .before .before .before .before .before .before .before .before .later-type .result) (l .k) _ (l .inv .1) (inside (c .before .before .before .before .before .before)) (omega arith) (c .before .before .due-fault .result) (told (c .before .before)) (λ e. omega arith)
+    let d = c .before .before in
+    let l = due (tried d) .loop2 in
+    let o = outer (due (tried d)) in
+    c .refused2 .ensures
+    ∙ walked-found (file o) (period o) (hours o) (l .at) (l .line) (type (due (tried d))) (l .k) _ (l .inv .1) (inside (tried d)) (omega arith)
+    (d .due-fault .result) (told d) (c .before .if2 .taken)
 
 line-length-requires : tie.Need-line-length-requires Inv-loop2 μ-loop2 Inv-loop μ-loop
 line-length-requires c κs = search needs
@@ -122,7 +198,7 @@ add-at-3 c =
     omega arith
 
 add-line-2 : tie.Need-add-line-2 Inv-loop2 μ-loop2 Inv-loop μ-loop
-add-line-2 c = omega (arith, c .before .before .before .before .before .before .before .loop2 .inv .1 .most)
+add-line-2 c = omega (arith, here c .loop2 .inv .1 .most)
 
 add-k : tie.Need-add-k Inv-loop2 μ-loop2 Inv-loop μ-loop
 add-k c = omega arith
@@ -132,44 +208,47 @@ loop2-less c = omega arith
 
 loop2-again : tie.Need-loop2-again Inv-loop2 μ-loop2 Inv-loop μ-loop
 loop2-again c =
-    let l = c .before .before .before .before .before .before .before .loop2 in
-    let x = c .before .before .before .before .before .before .before .before .before .before .before .before .before .before .args in
-    (omega arith, walked-next (x .file .now) (x .n) (l .at) (l .line) (c .before .before .before .before .before .before .before .before .before .later-type .result) (l .k) _ (l .inv .1) (inside (c .before .before .before .before .before .before)) (omega arith) (c .before .before .due-fault .result) (told (c .before .before)) (c .before .if2 .left) (c .line-length .result) (c .line-length .ensures .0))
+    let d = passed c in
+    let l = here c .loop2 in
+    let o = outer (here c) in (
+      omega arith,
+      walked-next (file o) (period o) (hours o) (l .at) (l .line) (type (here c)) (l .k) _ (l .inv .1) (inside (tried d)) (omega arith)
+          (d .due-fault .result) (told d) (c .before .if2 .left)
+          (c .line-length .result) (c .line-length .ensures .0),
+    )
 
-add-place : tie.Need-add-place Inv-loop2 μ-loop2 Inv-loop μ-loop
-add-place c = omega arith
+add-place-2 : tie.Need-add-place-2 Inv-loop2 μ-loop2 Inv-loop μ-loop
+add-place-2 c = omega arith
 
 loop-less : tie.Need-loop-less Inv-loop2 μ-loop2 Inv-loop μ-loop
 loop-less c = omega arith
 
 loop-again : tie.Need-loop-again Inv-loop2 μ-loop2 Inv-loop μ-loop
 loop-again c =
-    let l = c .before .loop2 in
-    let x = c .before .before .before .before .before .before .before .before .args in
-    (omega arith, walked-run (x .file .now) (x .n) (l .at) (l .line) (c .before .before .before .later-type .result) (l .k) _ (l .inv .1) (omega (arith, c .before .before .count-of .ensures)))
+    let i = c .before in
+    let l = i .loop2 in
+    let o = outer i in
+    (omega arith, walked-run (file o) (period o) (hours o) (l .at) (l .line) (type i) (l .k) _ (l .inv .1) (omega (arith, counted i)))
 
 refused-requires-3 : tie.Need-refused-requires-3 Inv-loop2 μ-loop2 Inv-loop μ-loop
 refused-requires-3 c κs = search needs
 
 returns-3 : tie.Need-returns-3 Inv-loop2 μ-loop2 Inv-loop μ-loop
 returns-3 c =
-    let l = c .before .before .before .loop in
-    let x = c .before .before .before .before .before .before .args in
-    c .refused3 .ensures ∙ walked-over (x .file .now) (x .n) (l .at) (l .line) (l .place) (omega arith) (omega arith) (l .inv .1)
-
-year-on-requires : tie.Need-year-on-requires Inv-loop2 μ-loop2 Inv-loop μ-loop
-year-on-requires c κs = omega (arith, long (c .before .before .before .before .before))
-
-quarter-on-requires : tie.Need-quarter-on-requires Inv-loop2 μ-loop2 Inv-loop μ-loop
-quarter-on-requires c κs = omega (arith, long (c .before .before .before .before .before .before))
+    let o = c .before .before .before in
+    let l = o .loop in
+    c .refused3 .ensures ∙ walked-over (file o) (period o) (hours o) (l .at) (l .line) (l .place) (omega arith) (omega arith) (l .inv .1)
 
 returns-4 : tie.Need-returns-4 Inv-loop2 μ-loop2 Inv-loop μ-loop
 returns-4 c =
-    let l = c .before .before .before .before .loop in
-    let x = c .before .before .before .before .before .before .before .args in
-    let e : Clean (record { year = c .before .year-on .result; quarter = c .quarter-on .result; hours = x .n }) ≡ Clean (reportOf (facilityOf (x .file .now)) (datesIn (x .file .now) (x .n))) =
-    rw (c .before .year-on .ensures, c .quarter-on .ensures, dates-length (x .file .now) (x .n)) in
-    e ∙ walked-clean (x .file .now) (x .n) (l .at) (l .line) (l .place) (omega arith) (omega arith) (l .inv .1)
+    let o = c .before .before in
+    let l = o .loop in
+    let e : Clean (record {
+      period =
+          period o;
+      shape = shape (hours o);
+    }) ≡ Clean (reportOf (period o) (datesIn (file o) (hours o))) = rw (dates-length (file o) (hours o)) in
+    e ∙ walked-clean (file o) (period o) (hours o) (l .at) (l .line) (l .place) (omega arith) (omega arith) (l .inv .1)
 
 pub walk-later-spec : {M : Type 1} → statement M
 walk-later-spec =
@@ -183,8 +262,9 @@ walk-later-spec =
     mul-at
     add-at
     add-line
+    add-place
     loop-holds
-    later-type-requires
+    type-at-requires
     count-of-requires
     loop2-holds
     refused-requires
@@ -203,11 +283,9 @@ walk-later-spec =
     add-k
     loop2-less
     loop2-again
-    add-place
+    add-place-2
     loop-less
     loop-again
     refused-requires-3
     returns-3
-    year-on-requires
-    quarter-on-requires
     returns-4)

@@ -1,4 +1,4 @@
--- `writer::lines::facility_record` meets its contract: the heading, the year, the quarter. Assumes nothing.
+-- `writer::lines::facility_record` meets its contract: the heading, the year, the quarter.
 use Rattle.writer.specs.Written.{facilityRecord}
 use borrow.Author.Needs.{needs}
 use Rattle.writer.proofs.lines.facility_record.Statement.{statement}

@@ -1,4 +1,4 @@
--- `writer::lines::fill_blank` meets its contract: blanks up to place i, one after the other. Assumes nothing.
+-- `writer::lines::fill_blank` meets its contract: blanks up to place i, one after the other.
 use Prim.Native.Nat.{ℕ, _-_, _≤_}
 use mathlib.Core.Path.{_≡_, refl, sym, ap, _∙_}
 use native.Mathlib.Omega.{arith}

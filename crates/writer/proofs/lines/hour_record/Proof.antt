@@ -1,6 +1,7 @@
--- `writer::lines::hour_record` meets its contract: the heading, the date and hour, the values. Assumes nothing.
+-- `writer::lines::hour_record` meets its contract: the heading, the date and hour, the values.
 use native.Mathlib.Omega.{arith}
-use Rattle.writer.specs.LineLaws.{date-room}
+use Rattle.layout.specs.LayoutLaws.{date-fits}
+use Rattle.layout.specs.RunLaws.{hourly-dated}
 use borrow.Author.Needs.{needs}
 use Rattle.writer.proofs.lines.hour_record.Statement.{statement}
 use Rattle.writer.proofs.lines.hour_record.Tie as tie
@@ -15,7 +16,7 @@ write-digits-requires : tie.Need-write-digits-requires
 write-digits-requires c κs =
     let h = c .before .before .before .before in
     let s = h .before .before .before .before in
-    rw (c .date-column .ensures) (omega (arith, date-room (s .args .t), h .write-heading .kept .0))
+    rw (c .date-column .ensures) (omega (arith, hourly-dated (s .args .t) (s .pre .2), date-fits (s .args .t), h .write-heading .kept .0))
 
 hour-values-requires : tie.Need-hour-values-requires
 hour-values-requires c κs = search needs
@@ -30,7 +31,8 @@ returns : tie.Need-returns
 returns c =
     let v = c .before .before in
     let d = v .before .before .before .before .before in
-    rw (v .write-values .ensures, v .before .hour-values .ensures, d .write-digits .ensures, d .before .date-column .ensures, d .before .before .before .before .before .write-heading .ensures)
+    let h = d .before .before .before .before .before in
+    rw (v .write-values .ensures, v .before .hour-values .ensures, d .write-digits .ensures, d .before .date-column .ensures, h .write-heading .ensures)
 
 pub hour-record-spec : {M : Type 1} → statement M
 hour-record-spec =

@@ -1,8 +1,10 @@
--- `writer::lines::hour_values` meets its contract, type by type. Assumes nothing.
-use Rattle.layout.specs.declared.RecordType.the-variants.{QuarterTotals}
+-- `writer::lines::hour_values` meets its contract, type by type.
+use Prim.Native.Nat.{ℕ}
+use mathlib.Core.Path.{_≡_}
 use native.Mathlib.Omega.{arith}
-use Rattle.layout.specs.Layout.{dateColumn}
-use Prim.Native.Nat.{_≤_}
+use Rattle.layout.specs.Layout.{recordOf}
+use Rattle.layout.specs.declared.RecordType.the-variants.{QuarterTotals}
+use Rattle.layout.specs.declared.Run.the-variants.{Hourly}
 use borrow.Author.Needs.{needs}
 use Rattle.writer.proofs.lines.hour_values.Statement.{statement}
 use Rattle.writer.proofs.lines.hour_values.Tie as tie
@@ -56,7 +58,10 @@ returns-6 : tie.Need-returns-6
 returns-6 c = rw (c .enum-told6 .given .1)
 
 returns-7 : tie.Need-returns-7
-returns-7 c = let e : 1 ≤ dateColumn QuarterTotals = rw (c .enum-told7 .given .1) at (c .before .before .pre) in absurd (omega arith)
+returns-7 c =
+    let once : recordOf QuarterTotals .run ≡ Hourly = rw (c .enum-told7 .given .1) at (c .before .before .pre) in
+    let z : _≡_ {A = ℕ} 0 1 = cc in
+    absurd (omega arith)
 
 returns-8 : tie.Need-returns-8
 returns-8 c = rw (c .enum-told8 .given .1)

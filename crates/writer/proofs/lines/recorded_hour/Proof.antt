@@ -1,4 +1,4 @@
--- `writer::lines::recorded_hour` meets its contract. Assumes nothing.
+-- `writer::lines::recorded_hour` meets its contract.
 use borrow.Author.Needs.{needs}
 use Rattle.writer.proofs.lines.recorded_hour.Statement.{statement}
 use Rattle.writer.proofs.lines.recorded_hour.Tie as tie

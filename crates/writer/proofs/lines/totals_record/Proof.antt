@@ -1,4 +1,4 @@
--- `writer::lines::totals_record` meets its contract: the heading and the four totals. Assumes nothing.
+-- `writer::lines::totals_record` meets its contract: the heading and the four totals.
 use Rattle.writer.specs.Written.{totalsRecord}
 use borrow.Author.Needs.{needs}
 use Rattle.writer.proofs.lines.totals_record.Statement.{statement}

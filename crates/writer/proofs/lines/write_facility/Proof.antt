@@ -1,5 +1,7 @@
--- `writer::lines::write_facility` meets its contract: a record and its byte 10. Assumes nothing.
+-- `writer::lines::write_facility` meets its contract: a record and its byte 10.
 use native.Mathlib.Omega.{arith}
+use Rattle.layout.specs.Layout.{lengthOf}
+use Rattle.layout.specs.declared.RecordType.the-variants.{Facility}
 use Rattle.writer.specs.Written.{facilityRecord}
 use Rattle.writer.specs.LineLaws.{facility-length}
 use Rattle.writer.proofs.Filling.{line-put}
@@ -33,7 +35,7 @@ returns c =
     let l = c .before .before .before .before in
     let s = l .before .before .before in
     rw (c .before .before .facility-record .ensures, l .line-length .ensures .0)
-    (line-put 0 14 (s .args .buffer .now) (facilityRecord (s .args .year) (s .args .quarter) (s .args .name .now))
+    (line-put 0 (lengthOf Facility) (s .args .buffer .now) (facilityRecord (s .args .year) (s .args .quarter) (s .args .name .now))
     (facility-length (s .args .name .now) (s .pre .1) (s .args .year) (s .args .quarter)) (omega arith))
 
 pub write-facility-spec : {M : Type 1} → statement M

@@ -1,5 +1,7 @@
--- `writer::lines::write_totals` meets its contract: a record and its byte 10. Assumes nothing.
+-- `writer::lines::write_totals` meets its contract: a record and its byte 10.
 use native.Mathlib.Omega.{arith}
+use Rattle.layout.specs.Layout.{lengthOf}
+use Rattle.layout.specs.declared.RecordType.the-variants.{QuarterTotals}
 use Rattle.writer.specs.Written.{totalsRecord}
 use Rattle.writer.specs.LineLaws.{totals-length}
 use Rattle.writer.proofs.Filling.{line-put}
@@ -36,7 +38,7 @@ returns c =
     let l = c .before .before .before .before in
     let s = l .before .before .before in
     rw (c .before .before .totals-record .ensures, l .line-length .ensures .0)
-    (line-put (s .args .at) 48 (s .args .buffer .now) (totalsRecord (s .args .name .now) (s .args .q))
+    (line-put (s .args .at) (lengthOf QuarterTotals) (s .args .buffer .now) (totalsRecord (s .args .name .now) (s .args .q))
     (totals-length (s .args .name .now) (s .pre .1) (s .args .q)) (omega arith))
 
 pub write-totals-spec : {M : Type 1} → statement M

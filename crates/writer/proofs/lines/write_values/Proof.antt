@@ -1,13 +1,13 @@
--- `writer::lines::write_values` meets its contract: the values from the i-th on, put into the line as it is, give the whole. Assumes nothing.
+-- `writer::lines::write_values` meets its contract: the values from the i-th on, put into the line as it is, give the whole.
 use Prim.Native.Nat.{_-_, _≤_}
 use mathlib.Core.Path.{_≡_, refl, sym, _∙_}
 use native.Mathlib.Omega.{arith}
 use borrow.Author.Needs.{needs}
 use lib.ListN.{length, take}
-use Rattle.layout.specs.Layout.{valueCount, valuesOf}
+use Rattle.layout.specs.Layout.{valueCount, valuesOf, mostValues}
+use Rattle.layout.specs.LayoutLaws.{values-most}
 use Rattle.layout.specs.ValueLaws.{value-inside}
 use Rattle.writer.specs.Written.{valued}
-use Rattle.writer.specs.LineLaws.{values-few}
 use Rattle.writer.proofs.Filling.{valuesLeft, values-more, values-end}
 use Rattle.writer.proofs.lines.write_values.Statement.{statement}
 use Rattle.writer.proofs.lines.write_values.Tie as tie
@@ -29,12 +29,12 @@ value-at-requires : tie.Need-value-at-requires Inv-loop μ-loop
 value-at-requires c κs = omega arith
 
 mul-write-number : tie.Need-mul-write-number Inv-loop μ-loop
-mul-write-number c = omega (arith, values-few (c .before .before .before .before .before .before .args .t))
+mul-write-number c = omega (arith, values-most (c .before .before .before .before .before .before .args .t))
 
 array-read-write-number : tie.Need-array-read-write-number Inv-loop μ-loop
 array-read-write-number c =
-    let x : length (c .before .before .before .before .before .before .args .t3) ≡ 4 = search needs in
-    omega (arith, values-few (c .before .before .before .before .before .before .args .t))
+    let most : length (c .before .before .before .before .before .before .args .t3) ≡ mostValues = search needs in
+    omega (arith, values-most (c .before .before .before .before .before .before .args .t))
 
 write-number-requires : tie.Need-write-number-requires Inv-loop μ-loop
 write-number-requires c κs =
@@ -55,10 +55,10 @@ loop-again c =
     let s = c .before .before .before .before .before .before .before .before .before in
     let w = c .before .before .write-number in
     let v = c .before .before .before .before .value-at in
-    let four : length (s .args .t3) ≡ 4 = search needs in (
+    let most : length (s .args .t3) ≡ mostValues = search needs in (
       omega arith,
       w .kept .0 ∙ l .inv .1,
-      rw (w .ensures, v .ensures) (values-more (s .args .t) (s .args .t3) (l .i) (l .line) (omega arith) four) ∙ l .inv .2,
+      rw (w .ensures, v .ensures) (values-more (s .args .t) (s .args .t3) (l .i) (l .line) (omega arith) most) ∙ l .inv .2,
     )
 
 same-length : tie.Need-same-length Inv-loop μ-loop

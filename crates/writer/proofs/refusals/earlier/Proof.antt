@@ -1,4 +1,4 @@
--- `writer::refusals::earlier` meets its contract. Assumes nothing.
+-- `writer::refusals::earlier` meets its contract.
 use Rattle.writer.proofs.OnePass.{earlier-second, earlier-first, earlier-least, earlier-kept}
 use Rattle.writer.proofs.refusals.earlier.Statement.{statement}
 use Rattle.writer.proofs.refusals.earlier.Tie as tie

@@ -1,12 +1,13 @@
--- `writer::refusals::hour_refusal` meets its contract. Assumes nothing.
+-- `writer::refusals::hour_refusal` meets its contract.
 use mathlib.Core.Path.{_≡_, sym, ap, _∙_}
 use mathlib.Core.Bool.{Bool, true, false}
 use borrow.Author.Needs.{needs}
 use borrow.Author.Tests.{not-true, not-false}
-use Rattle.writer.specs.Refusals.{readingsHold, figuresHold, figuresFit}
-use Rattle.writer.specs.SheetLaws.{readings-within}
+use Rattle.sheet.specs.SheetTests.{readingsHold}
+use Rattle.sheet.specs.TestLaws.{readings-true}
+use Rattle.sheet.specs.declared.SheetHour.{SheetHour}
+use Rattle.writer.specs.Refusals.{figuresHold, figuresFit}
 use Rattle.writer.specs.OnePass.{valuesRefusal, hourRefusal}
-use Rattle.writer.specs.declared.sheet.SheetHour.{SheetHour}
 use Rattle.writer.proofs.refusals.hour_refusal.Statement.{statement}
 use Rattle.writer.proofs.refusals.hour_refusal.Tie as tie
 
@@ -29,7 +30,7 @@ returns c =
 rounded-figures-requires : tie.Need-rounded-figures-requires
 rounded-figures-requires c κs =
     let r = c .before .readings-hold in
-    readings-within (c .before .before .args .h) (sym (r .ensures) ∙ not-false _ (c .if1 .left)) .1
+    readings-true (c .before .before .args .h) (sym (r .ensures) ∙ not-false _ (c .if1 .left)) .1
 
 figures-hold-requires : tie.Need-figures-hold-requires
 figures-hold-requires c κs = search needs

@@ -1,11 +1,12 @@
 -- `writer::refusals::refusal` meets its contract: what one pass over the hours finds is what the tests find in their order.
--- Assumes nothing.
-use mathlib.Core.Path.{_≡_, sym, _∙_}
+use mathlib.Core.Path.{_≡_, sym, ap, _∙_}
 use mathlib.Core.Bool.{true}
 use borrow.Author.Needs.{needs}
 use borrow.Author.Tests.{not-true, not-false}
-use Rattle.writer.specs.Refusals.{headingHolds}
-use Rattle.writer.specs.RefusalLaws.{heading-holds, sheet-holds, hour-count}
+use Rattle.layout.specs.Layout.{reportLength}
+use Rattle.sheet.specs.Sheet.{shapeOf}
+use Rattle.sheet.specs.SheetTests.{headingHolds}
+use Rattle.sheet.specs.TestLaws.{heading-true, sheet-true, shape-held}
 use Rattle.writer.proofs.FirstRefusal.{passed, heading-wrong, words-wrong, found-told, room-short, room-enough, none-found}
 use Rattle.writer.proofs.refusals.refusal.Statement.{statement}
 use Rattle.writer.proofs.refusals.refusal.Tie as tie
@@ -23,7 +24,7 @@ returns-2 : tie.Need-returns-2
 returns-2 c = words-wrong _ _ _ _ _ (headed (c .before)) (c .if2 .taken)
 
 hours-in-quarter-requires : tie.Need-hours-in-quarter-requires
-hours-in-quarter-requires c κs = heading-holds _ _ _ (headed (c .before)) .isQuarter
+hours-in-quarter-requires c κs = heading-true _ _ _ (headed (c .before)) .isQuarter
 
 sheet-refusal-requires : tie.Need-sheet-refusal-requires
 sheet-refusal-requires c κs = search needs
@@ -37,22 +38,35 @@ returns-3 c =
     let i = c .before .before .before in
     found-told _ _ _ _ _ (headed (i .before)) (i .if2 .left) _ (given (c .before)) (c .if3 .taken)
 
-report-bytes-requires : tie.Need-report-bytes-requires
-report-bytes-requires c κs =
-    let i = c .before .before .before in
-    hour-count _ _ _ _ (sheet-holds _ _ _ _ (none-found _ _ _ _ 0 (headed (i .before)) (i .if2 .left) (sym (given (c .before)) ∙ c .if3 .left)))
+shape-of-requires : tie.Need-shape-of-requires
+shape-of-requires c κs = search needs
+
+-- nothing was found
+none : (c : tie.Else3) → let x = c .before .before .before .before .before .before .before .before .args in passed (x .year) (x .quarter) (x .sheet .now) ≡ 0
+none c = sym (given (c .before)) ∙ c .if3 .left
+
+report-length-requires : tie.Need-report-length-requires
+report-length-requires c κs =
+    let f = c .before in
+    let i = f .before .before .before in
+    rw (c .shape-of .ensures) (shape-held _ _ _ _ (sheet-true _ _ _ _ (none-found _ _ _ _ 0 (headed (i .before)) (i .if2 .left) (none f))))
+
+long : (c : tie.After-report-length) →
+    let x = c .before .before .before .before .before .before .before .before .before .before .args in
+    c .report-length .result ≡ reportLength (shapeOf (x .sheet .now))
+long c = c .report-length .ensures .0 ∙ ap reportLength (c .before .shape-of .ensures)
 
 returns-4 : tie.Need-returns-4
 returns-4 c =
-    let f = c .before .before in
+    let f = c .before .before .before in
     let i = f .before .before .before in
-    room-short _ _ _ _ _ (headed (i .before)) (i .if2 .left) (sym (given (f .before)) ∙ f .if3 .left) (c .before .report-bytes .ensures) (c .if4 .taken)
+    room-short _ _ _ _ _ (headed (i .before)) (i .if2 .left) (none f) (long (c .before)) (c .if4 .taken)
 
 returns-5 : tie.Need-returns-5
 returns-5 c =
-    let f = c .before .before in
+    let f = c .before .before .before in
     let i = f .before .before .before in
-    room-enough _ _ _ _ _ (headed (i .before)) (i .if2 .left) (sym (given (f .before)) ∙ f .if3 .left) (c .before .report-bytes .ensures) (c .if4 .left)
+    room-enough _ _ _ _ _ (headed (i .before)) (i .if2 .left) (none f) (long (c .before)) (c .if4 .left)
 
 pub refusal-spec : {M : Type 1} → statement M
 refusal-spec =
@@ -64,6 +78,7 @@ refusal-spec =
     hours-in-quarter-requires
     sheet-refusal-requires
     returns-3
-    report-bytes-requires
+    shape-of-requires
+    report-length-requires
     returns-4
     returns-5)

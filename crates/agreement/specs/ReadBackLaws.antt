@@ -1,0 +1,153 @@
+-- The hours and totals of a written report are read back as they were recorded.
+use Prim.Native.Nat.{ℕ, zero, suc, _+_, _≤_, _<_}
+use mathlib.Core.Path.{_≡_, refl, sym, ap, ap₂, _∙_}
+use mathlib.Core.List.{List, [], _∷_, _++_, map}
+use mathlib.Core.Bool.{true}
+use native.Mathlib.Omega.{arith}
+use native.Mathlib.Nat.{le-of-suc-le-suc, not-suc-le-zero}
+use lib.ListN.{length, getD, drop, drop-of-length-le}
+use lib.Seq.{drop-cons}
+use Rattle.exact.specs.Sums.{totalOf}
+use Rattle.columns.specs.Number.{numberOf}
+use Rattle.layout.specs.Layout.{recordOf, dateColumn, stackWidth, valueCount, valuesOf, valueAt, noValue, order, earlier, countOf, bytesOf, shape}
+use Rattle.layout.specs.declared.RecordType.{RecordType}
+use Rattle.layout.specs.declared.RecordType.the-variants.{So2Concentration, NoxConcentration, Co2Concentration, VolumetricFlow, Operation, QuarterTotals, So2Mass, NoxRate, Co2Mass}
+use Rattle.layout.specs.declared.Run.the-variants.{Hourly}
+use Rattle.layout.specs.RunLaws.{hourly-dated}
+use Rattle.totals.specs.TotalLaws.{quarter-hours}
+use Rattle.totals.specs.declared.Quarter.{Quarter}
+use Rattle.lines.specs.Lines.{lines}
+use Rattle.lines.specs.LineFaults.{typeIs, fieldIn}
+use Rattle.reading.specs.Recorded.{linesWith, recordsOf as recordsRead, valueOn, hourCount, hourAt, hoursFrom, hoursOf, totalsIn}
+use Rattle.reading.specs.Places.{numbered}
+use Rattle.reading.specs.RunLaws.{LineRun, AllOf, Typed, joined, runsFrom, order-chosen, numbered-length, numbered-at}
+use Rattle.sheet.specs.TestLaws.{Heading}
+use Rattle.sheet.specs.declared.SheetHour.{SheetHour}
+use Rattle.writer.specs.Recorded.{recordedHour, recordedHours}
+use Rattle.writer.specs.Written.{headed, hourValues, hourRecord, totalValues, totalsRecord, recordsOf, report}
+use Rattle.writer.specs.ReportLaws.{EachRecord, hour-records, records-count}
+use Rattle.agreement.specs.RecordLaws.{framed-headed, ValuesWithin, value-back}
+use Rattle.agreement.specs.HourRecordLaws.{stamped, stamped-framed}
+use Rattle.agreement.specs.ReportLaws.{AllWritable, values-within, recorded-length, formed, totals-within, recordsIn, report-lines, records-typed}
+
+all-of : (t : RecordType) (rs : List (List ℕ)) → EachRecord (λ r. typeIs t r ≡ true) rs → AllOf t rs
+all-of t [] e = tt
+all-of t (r ∷ rs) e = (e .0, all-of t rs (e .1))
+
+mapped-at : {A : Type 0} (f : A → List ℕ) (xs : List A) (none : A) (k : ℕ) → k < length xs → getD (map f xs) k [] ≡ f (getD xs k none)
+mapped-at f [] none k h = absurd (not-suc-le-zero h)
+mapped-at f (x ∷ xs) none zero h = refl
+mapped-at f (x ∷ xs) none (suc k) h = mapped-at f xs none k (le-of-suc-le-suc h)
+
+writable-at : (year quarter : ℕ) (xs : List SheetHour) (none : SheetHour) (k : ℕ) → AllWritable year quarter xs → k < length xs →
+    AllWritable year quarter (getD xs k none ∷ [])
+writable-at year quarter [] none k a h = absurd (not-suc-le-zero h)
+writable-at year quarter (x ∷ xs) none zero a h = (a .0, tt)
+writable-at year quarter (x ∷ xs) none (suc k) a h = writable-at year quarter xs none k (a .1) (le-of-suc-le-suc h)
+
+abbrev none : SheetHour
+none = record { hour = 0; time = 0; readings = record { so2 = 0; nox = 0; co2 = 0; flow = 0; fc = 0 } }
+
+module _ (year quarter : ℕ) (name : List ℕ) (g : Heading year quarter name) (named : length name ≡ stackWidth) (hs : List SheetHour) where
+  abbrev file : List ℕ
+  file = report year quarter name hs
+
+  abbrev records : RecordType → List (List ℕ)
+  records t = recordsOf year quarter name hs t
+
+  abbrev counted : (at : ℕ) (t : RecordType) → length (records t) ≡ countOf (shape (length hs)) t
+  counted at t = records-count year quarter name hs named (shape (length hs)) refl t
+
+  abbrev runs : List RecordType → ℕ → List LineRun
+  runs = runsFrom (λ at t. records t) (countOf (shape (length hs))) (bytesOf (shape (length hs))) counted
+
+  runs-joined : (ts : List RecordType) (at : ℕ) → recordsIn year quarter name g named hs ts ≡ joined (runs ts at)
+  runs-joined [] at = refl
+  runs-joined (t ∷ ts) at = ap (λ (l : List (List ℕ)). records t ++ l) (runs-joined ts (at + bytesOf (shape (length hs)) t))
+
+  runs-typed : (ts : List RecordType) (at : ℕ) → Typed (runs ts at)
+  runs-typed [] at = tt
+  runs-typed (t ∷ ts) at = (all-of t (records t) (records-typed year quarter name g named hs t), runs-typed ts (at + bytesOf (shape (length hs)) t))
+
+  -- the records of a type in the report are those that were written
+  records-back : (t : RecordType) → recordsRead file t ≡ numbered (1 + totalOf (countOf (shape (length hs))) (earlier t)) (records t)
+  unfolding recordsRead
+  records-back t =
+      ap (linesWith (typeIs t) 1) (report-lines year quarter name g named hs ∙ runs-joined order 0)
+      ∙ order-chosen (λ at t. records t) (countOf (shape (length hs))) (bytesOf (shape (length hs))) counted t 1 0 (runs-typed order 0)
+
+  -- a value of the k-th record of a type
+  value-from : (t : RecordType) (k i : ℕ) → k < countOf (shape (length hs)) t → valueOn file t k i ≡ numberOf (fieldIn (valueAt t i) (getD (records t) k []))
+  unfolding valueOn
+  value-from t k i h =
+      let c : k < length (records t) = rw (counted 0 t) h in
+      rw (records-back t, numbered-at (records t) (record { number = 0; text = [] }) k (1 + totalOf (countOf (shape (length hs))) (earlier t)) c)
+
+  -- of an hour
+  hour-value : (t : RecordType) → recordOf t .run ≡ Hourly → (k i : ℕ) → k < length hs → k < countOf (shape (length hs)) t → i < valueCount t →
+      AllWritable year quarter hs →
+      valueOn file t k i ≡ getD (hourValues t (recordedHour (getD hs k none))) i 0
+  unfolding numberOf hourRecord stamped
+  hour-value t e k i h b c a =
+      let x = getD hs k none in
+      let d = hourly-dated t e in
+      let w = writable-at year quarter hs none k a h .0 .within in
+      value-from t k i b
+      ∙ ap (λ (r : List ℕ). numberOf (fieldIn (valueAt t i) r))
+      (ap (λ (rs : List (List ℕ)). getD rs k []) (hour-records year quarter name hs t e) ∙ mapped-at (hourRecord year quarter name t) hs none k h)
+      ∙ ap numberOf (value-back t (hourValues t (recordedHour x)) (stamped year quarter name g named t d x)
+      (stamped-framed year quarter name g named t d x .long) (values-within t x d w) i c)
+
+  module _ (a : AllWritable year quarter hs) where
+    -- an hour of the report is that of the sheet
+    hour-back : (k : ℕ) → k < length hs → hourAt file k ≡ recordedHour (getD hs k none)
+    unfolding hourAt
+    hour-back k h =
+        rw (
+          hour-value Operation refl k 0 h h (omega arith) a,
+          hour-value Operation refl k 1 h h (omega arith) a,
+          hour-value So2Concentration refl k 0 h h (omega arith) a,
+          hour-value NoxConcentration refl k 0 h h (omega arith) a,
+          hour-value Co2Concentration refl k 0 h h (omega arith) a,
+          hour-value VolumetricFlow refl k 0 h h (omega arith) a,
+          hour-value NoxRate refl k 0 h h (omega arith) a,
+          hour-value So2Mass refl k 0 h h (omega arith) a,
+          hour-value NoxRate refl k 1 h h (omega arith) a,
+          hour-value Co2Mass refl k 0 h h (omega arith) a,
+        )
+
+    count-back : hourCount file ≡ length hs
+    count-back = rw (records-back So2Concentration) (numbered-length (records So2Concentration) _ ∙ counted 0 So2Concentration)
+
+    hours-from : (k left : ℕ) → k + left ≡ length hs → hoursFrom file k left ≡ recordedHours (drop k hs)
+    unfolding hoursFrom recordedHours
+    hours-from k zero e =
+        let b : length hs ≤ k = omega arith in
+        rw (drop-of-length-le hs b)
+    hours-from k (suc left) e =
+        let b : k < length hs = omega arith in
+        rw (drop-cons hs k none b) (ap₂ _∷_ (hour-back k b) (hours-from (suc k) left (omega arith)))
+
+    pub hours-back : hoursOf file ≡ recordedHours hs
+    unfolding hoursOf
+    hours-back = rw count-back (hours-from 0 (length hs) (omega arith))
+
+    module _ (few : length hs ≤ 2208) where
+      total-back : (i : ℕ) → i < valueCount QuarterTotals → valueOn file QuarterTotals 0 i ≡ getD (totalValues (formed hs)) i 0
+      unfolding numberOf recordsOf totalsRecord
+      total-back i b =
+          value-from QuarterTotals 0 i (omega arith)
+          ∙ ap numberOf (value-back QuarterTotals (totalValues (formed hs)) (headed QuarterTotals name) (framed-headed QuarterTotals name named .long)
+          (totals-within year quarter hs a few) i b)
+
+      pub totals-back : totalsIn file ≡ formed hs
+      unfolding totalsIn
+      totals-back =
+          let n = count-back ∙ sym (recorded-length hs) ∙ sym (quarter-hours (recordedHours hs)) in
+          λ i. record {
+            hours = n i;
+            so2 = total-back 0 (omega arith) i;
+            co2 = total-back 1 (omega arith) i;
+            heat = total-back 2 (omega arith) i;
+            nox = total-back 3 (omega arith) i;
+          }

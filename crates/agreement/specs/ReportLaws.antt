@@ -1,0 +1,286 @@
+-- The lines of a written report are its records, in the order of their types, and pass the line checks.
+use Prim.Native.Nat.{ℕ, zero, suc, _+_, _≤_, _<_}
+use mathlib.Core.Path.{_≡_, refl, sym, ap, ap₂, _∙_}
+use mathlib.Core.List.{List, [], _∷_, _++_, map, append-assoc, append-nil}
+use mathlib.Core.Bool.{Bool, true, false, not}
+use mathlib.Core.Logic.{_⊎_, inl, inr, ⊎-elim}
+use native.Mathlib.Omega.{arith}
+use native.Mathlib.Numerals.{add-one}
+use lib.Dec.{eqb}
+use lib.ListN.{length, length-map}
+use borrow.Author.Tests.{ne-eqb, eq-eqb, not-true}
+use Rattle.columns.specs.Bytes.{isPrintable, all}
+use Rattle.columns.specs.BytesLaws.{all-head, all-tail}
+use Rattle.calendar.specs.Calendar.{hoursInQuarter}
+use Rattle.layout.specs.Layout.{recordOf, codeOf, dateColumn, stackWidth, valuesOf, order, shape}
+use Rattle.layout.specs.LayoutLaws.{both}
+use Rattle.layout.specs.PlaceLaws.{runsOf as textsOf}
+use Rattle.layout.specs.RunLaws.{once-type, hourly-dated}
+use Rattle.layout.specs.TypeLaws.{absent, only-once}
+use Rattle.layout.specs.declared.RecordType.{RecordType}
+use Rattle.layout.specs.declared.RecordType.the-variants.{Facility, So2Concentration, NoxConcentration, Co2Concentration, VolumetricFlow, Operation, QuarterTotals, So2Mass, NoxRate, Co2Mass}
+use Rattle.layout.specs.declared.Run.{Run}
+use Rattle.layout.specs.declared.Run.the-variants.{Once, Hourly}
+use Rattle.formulas.specs.Hour.{HourWithin, HoursWithin}
+use Rattle.stamp.specs.Stamp.{stampOf}
+use Rattle.totals.specs.Totals.{quarterTotals}
+use Rattle.totals.specs.FitLaws.{totals-fit}
+use Rattle.totals.specs.declared.Quarter.{Quarter}
+use Rattle.lines.specs.Lines.{onto, lines, last}
+use Rattle.lines.specs.LineFaults.{typeIs, facilityLine, dateOn, hourLine, Due, dueOf, dueFault}
+use Rattle.lines.specs.FaultLaws.{type-same}
+use Rattle.reading.specs.Reading.{laterTypes, datesOf, runOf, runsOf, reportOf, walkDue, walkLater, walkHours, walk, readOf}
+use Rattle.reading.specs.CleanLaws.{Matches}
+use Rattle.reading.specs.declared.Report.{Report}
+use Rattle.reading.specs.declared.Reading.the-variants.{Clean}
+use Rattle.sheet.specs.SheetTests.{hoursRise}
+use Rattle.sheet.specs.TestLaws.{Heading, rise-first, rise-count}
+use Rattle.sheet.specs.declared.SheetHour.{SheetHour}
+use Rattle.writer.specs.Recorded.{recordedHour, recordedHours}
+use Rattle.writer.specs.Writable.{HourWritable}
+use Rattle.writer.specs.Written.{ended, facilityRecord, hourValues, hourRecord, totalValues, totalsRecord, onceRecord, runRecords, recordsOf, lined, report}
+use Rattle.writer.specs.ReportLaws.{EachRecord, records-each, records-printable}
+use Rattle.agreement.specs.RecordLaws.{framed-type, ValuesWithin}
+use Rattle.agreement.specs.HourRecordLaws.{facility, period, facility-framed, facility-named, hour-framed, hour-date, hour-due, hour-named, totals-framed, totals-due}
+
+-- a line of printable bytes and its byte 10 are the first line of what follows
+printable-not-end : (b : ℕ) → isPrintable b ≡ true → eqb b 10 ≡ false
+printable-not-end b h = ne-eqb b 10 (λ e. absurd (no (rw e at h)))
+  where
+    no : isPrintable 10 ≡ true → ⊥
+    no k = let y : _≡_ {A = ℕ} 0 1 = cc in omega arith
+
+lines-ended : (line rest : List ℕ) → all isPrintable line ≡ true → lines (line ++ (10 ∷ rest)) ≡ line ∷ lines rest
+unfolding lines onto
+lines-ended [] rest p = refl
+lines-ended (b ∷ line) rest p =
+    rw (printable-not-end b (all-head isPrintable b line p), lines) (ap (onto b) (lines-ended line rest (all-tail isPrintable b line p)))
+
+lines-lined : (rs : List (List ℕ)) (rest : List ℕ) → EachRecord (λ r. all isPrintable r ≡ true) rs → lines (lined rs ++ rest) ≡ rs ++ lines rest
+unfolding lined
+lines-lined [] rest p = refl
+lines-lined (r ∷ rs) rest p =
+    ap lines (append-assoc (ended r) (lined rs) rest ∙ append-assoc r (10 ∷ []) (lined rs ++ rest))
+    ∙ lines-ended r (lined rs ++ rest) (p .0)
+    ∙ ap (λ (l : List (List ℕ)). r ∷ l) (lines-lined rs rest (p .1))
+
+-- nothing, or something that ends with byte 10
+Closed : List ℕ → Type 0
+Closed xs = (xs ≡ []) ⊎ (last xs ≡ 10)
+
+last-behind : (xs : List ℕ) (y : ℕ) (ys : List ℕ) → last (xs ++ (y ∷ ys)) ≡ last (y ∷ ys)
+unfolding last
+last-behind [] y ys = refl
+last-behind (x ∷ []) y ys = refl
+last-behind (x ∷ z ∷ xs) y ys = last-behind (z ∷ xs) y ys
+
+closed-append : (xs ys : List ℕ) → Closed xs → Closed ys → Closed (xs ++ ys)
+unfolding Closed
+closed-append xs [] p q = rw (append-nil xs) p
+closed-append xs (y ∷ ys) p q = ⊎-elim (λ e. absurd (let z : _≡_ {A = ℕ} 0 1 = cc in omega arith)) (λ e. inr (last-behind xs y ys ∙ e)) q
+
+closed-lined : (rs : List (List ℕ)) → Closed (lined rs)
+unfolding lined Closed last
+closed-lined [] = inl refl
+closed-lined (r ∷ rs) = closed-append (ended r) (lined rs) (inr (last-behind r 10 [])) (closed-lined rs)
+
+closed-texts : (text : RecordType → List (List ℕ)) (ts : List RecordType) → Closed (textsOf (λ t. lined (text t)) ts)
+unfolding Closed
+closed-texts text [] = inl refl
+closed-texts text (t ∷ ts) = closed-append (lined (text t)) (textsOf (λ t. lined (text t)) ts) (closed-lined (text t)) (closed-texts text ts)
+
+-- lines that are due and come are clean
+matches-clean : (own : Report) (first : List ℕ) (line : ℕ) (due : List Due) (ls : List (List ℕ)) → Matches first due ls →
+    walkDue own first line due ls ≡ Clean own
+unfolding walkDue
+matches-clean own first line [] [] m = refl
+matches-clean own first line [] (l ∷ ls) m = absurd m
+matches-clean own first line (d ∷ ds) [] m = absurd m
+matches-clean own first line (d ∷ ds) (l ∷ ls) m = rw (m .0, walkDue) (matches-clean own first (line + 1) ds ls (m .1))
+
+append-matches : (first : List ℕ) (ds es : List Due) (ls ms : List (List ℕ)) → Matches first ds ls → Matches first es ms → Matches first (ds ++ es) (ls ++ ms)
+append-matches first [] es [] ms p q = q
+append-matches first [] es (l ∷ ls) ms p q = absurd p
+append-matches first (d ∷ ds) es [] ms p q = absurd p
+append-matches first (d ∷ ds) es (l ∷ ls) ms p q = (p .0, append-matches first ds es ls ms (p .1) q)
+
+abbrev pub AllWritable : ℕ → ℕ → List SheetHour → Type 0
+AllWritable year quarter [] = Unit {0}
+AllWritable year quarter (h ∷ hs) = HourWritable year quarter h × AllWritable year quarter hs
+
+-- the values of an hour in the record of a type lie in their ranges
+pub values-within : (t : RecordType) (h : SheetHour) → 1 ≤ dateColumn t → HourWithin (recordedHour h) →
+    ValuesWithin (valuesOf t) (hourValues t (recordedHour h))
+values-within Facility h d w = tt
+values-within So2Concentration h d w = (w .readings .so2, tt)
+values-within NoxConcentration h d w = (w .readings .nox, tt)
+values-within Co2Concentration h d w = (w .readings .co2, tt)
+values-within VolumetricFlow h d w = (w .readings .flow, tt)
+values-within Operation h d w = (w .time, (w .figures .heat, tt))
+values-within QuarterTotals h d w = absurd (omega arith)
+values-within So2Mass h d w = (w .figures .so2, tt)
+values-within NoxRate h d w = (w .readings .fc, (w .figures .nox, tt))
+values-within Co2Mass h d w = (w .figures .co2, tt)
+
+recorded-within : (year quarter : ℕ) (hs : List SheetHour) → AllWritable year quarter hs → HoursWithin (recordedHours hs)
+unfolding recordedHours
+recorded-within year quarter [] a = tt
+recorded-within year quarter (h ∷ hs) a = (a .0 .within, recorded-within year quarter hs (a .1))
+
+pub recorded-length : (hs : List SheetHour) → length (recordedHours hs) ≡ length hs
+unfolding recordedHours
+recorded-length [] = refl
+recorded-length (h ∷ hs) = ap suc (recorded-length hs)
+
+-- the totals that a report states
+abbrev pub formed : List SheetHour → Quarter
+formed hs = quarterTotals (recordedHours hs)
+
+pub totals-within : (year quarter : ℕ) (hs : List SheetHour) → AllWritable year quarter hs → length hs ≤ 2208 →
+    ValuesWithin (valuesOf QuarterTotals) (totalValues (formed hs))
+totals-within year quarter hs a b =
+    let f = totals-fit (recordedHours hs) (recorded-within year quarter hs a) (omega (arith, recorded-length hs)) in
+    (f .so2, (f .co2, (f .heat, (f .nox, tt))))
+
+module _ (year quarter : ℕ) (name : List ℕ) (g : Heading year quarter name) (named : length name ≡ stackWidth) (hs : List SheetHour) where
+  abbrev records : RecordType → List (List ℕ)
+  records t = recordsOf year quarter name hs t
+
+  -- the records of these types, one type after the other
+  abbrev pub recordsIn : List RecordType → List (List ℕ)
+  recordsIn [] = []
+  recordsIn (t ∷ ts) = records t ++ recordsIn ts
+
+  lines-in : (ts : List RecordType) → lines (textsOf (λ t. lined (records t)) ts) ≡ recordsIn ts
+  unfolding lines
+  lines-in [] = refl
+  lines-in (t ∷ ts) =
+      lines-lined (records t) (textsOf (λ t. lined (records t)) ts) (records-printable year quarter name hs (g .printable) t)
+      ∙ ap (λ (l : List (List ℕ)). records t ++ l) (lines-in ts)
+
+  pub report-lines : lines (report year quarter name hs) ≡ recordsIn order
+  unfolding report
+  report-lines = lines-in order
+
+  report-last : last (report year quarter name hs) ≡ 10
+  unfolding Closed report recordsOf lined
+  report-last = ⊎-elim (λ e. absurd (some (facilityRecord year quarter name) _ e)) (λ e. e) (closed-texts records order)
+    where
+      some : (line rest : List ℕ) → (ended line ++ []) ++ rest ≡ [] → ⊥
+      some [] rest e = let z : _≡_ {A = ℕ} 0 1 = cc in omega arith
+      some (b ∷ line) rest e = let z : _≡_ {A = ℕ} 0 1 = cc in omega arith
+
+  pub records-typed : (t : RecordType) → EachRecord (λ r. typeIs t r ≡ true) (records t)
+  records-typed t =
+      records-each year quarter name hs (λ t r. typeIs t r ≡ true)
+      (framed-type Facility name _ (facility-framed year quarter name g named))
+      (framed-type QuarterTotals name _ (totals-framed year quarter name g named (formed hs)))
+      (λ t e h. framed-type t name _ (hour-framed year quarter name g named t (hourly-dated t e) h))
+      t
+
+  -- the lines of the later types are those that are due
+
+  abbrev stamps : List SheetHour → List (List ℕ)
+  stamps xs = map (λ h. stampOf year quarter (h .hour)) xs
+
+  first : List ℕ
+  first = facility year quarter name g named
+
+  hours-due : (t : RecordType) → 1 ≤ dateColumn t → (xs : List SheetHour) → AllWritable year quarter xs →
+      Matches first (map (dueOf t) (stamps xs)) (map (hourRecord year quarter name t) xs)
+  unfolding first
+  hours-due t d [] a = tt
+  hours-due t d (x ∷ xs) a = (hour-due year quarter name g named t d x (values-within t x d (a .0 .within)), hours-due t d xs (a .1))
+
+  module _ (a : AllWritable year quarter hs) (few : length hs ≤ 2208) where
+    type-due : (t : RecordType) → eqb (codeOf t) (codeOf Facility) ≡ false → Matches first (runOf t (stamps hs)) (records t)
+    unfolding runOf recordsOf first
+    type-due t n = go (recordOf t .run) refl
+      where
+        one : (t ≡ Facility) ⊎ (t ≡ QuarterTotals) → dueFault first (dueOf t []) (onceRecord year quarter name hs t) ≡ 0
+        one (inl e) = absurd (let f = rw e at n in let z : _≡_ {A = ℕ} 0 1 = cc in omega arith)
+        one (inr e) = rw e (totals-due year quarter name g named (formed hs) (totals-within year quarter hs a few))
+
+        go : (run : Run) → recordOf t .run ≡ run →
+            Matches first (map (dueOf t) (datesOf run (stamps hs)))
+            (runRecords run (onceRecord year quarter name hs t) (map (hourRecord year quarter name t) hs))
+        go Once e = (one (once-type t e), tt)
+        go Hourly e = hours-due t (hourly-dated t e) hs a
+
+    types-due : (ts : List RecordType) → absent (codeOf Facility) ts ≡ true → Matches first (runsOf ts (stamps hs)) (recordsIn ts)
+    unfolding runsOf
+    types-due [] n = tt
+    types-due (t ∷ ts) n =
+        let b = both (not (eqb (codeOf t) (codeOf Facility))) (absent (codeOf Facility) ts) n in
+        append-matches first (runOf t (stamps hs)) (runsOf ts (stamps hs)) (records t) (recordsIn ts) (type-due t (not-true _ (b .0))) (types-due ts (b .1))
+
+  -- no line of theirs is a 200 line
+  abbrev Other : List (List ℕ) → Type 0
+  Other [] = Unit {0}
+  Other (l ∷ ls) = typeIs So2Concentration l ≡ false
+
+  later-other : (ts : List RecordType) → absent (codeOf So2Concentration) ts ≡ true → Other (recordsIn ts)
+  later-other [] n = tt
+  later-other (t ∷ ts) n =
+      let b = both (not (eqb (codeOf t) (codeOf So2Concentration))) (absent (codeOf So2Concentration) ts) n in
+      go (records t) (records-typed t) (not-true _ (b .0)) (later-other ts (b .1))
+    where
+      go : (rs : List (List ℕ)) → EachRecord (λ r. typeIs t r ≡ true) rs → eqb (codeOf t) (codeOf So2Concentration) ≡ false → Other (recordsIn ts) →
+          Other (rs ++ recordsIn ts)
+      go [] e f o = o
+      go (r ∷ rs) e f o = type-same t So2Concentration r (e .0) ∙ f
+
+  stops : (line from : ℕ) (dates later : List (List ℕ)) → Other later →
+      walkHours first (period year quarter name g named) line from dates later ≡ walkLater first (period year quarter name g named) line dates later
+  unfolding walkHours
+  stops line from dates [] o = refl
+  stops line from dates (l ∷ ls) o = rw (o, walkHours)
+
+  -- the 200 lines, one after the other
+  hours-walked : (xs : List SheetHour) (line from : ℕ) (dates later : List (List ℕ)) → AllWritable year quarter xs →
+      hoursRise (hoursInQuarter year quarter) from xs ≡ true → Other later →
+      walkHours first (period year quarter name g named) line from dates (map (hourRecord year quarter name So2Concentration) xs ++ later)
+      ≡ walkLater first (period year quarter name g named) (line + length xs) (dates ++ stamps xs) later
+  unfolding walkHours first
+  hours-walked [] line from dates later a r o =
+      let e : line + 0 ≡ line = omega arith in
+      rw (e, append-nil dates) (stops line from dates later o)
+  hours-walked (x ∷ xs) line from dates later a r o =
+      let b = rise-first (hoursInQuarter year quarter) from x xs r in
+      let l = hourRecord year quarter name So2Concentration x in
+      let w = values-within So2Concentration x (omega arith) (a .0 .within) in
+      let e : line + 1 + length xs ≡ line + suc (length xs) = omega arith in
+      let d : dates ++ (dateOn l ∷ []) ++ stamps xs ≡ dates ++ (stampOf year quarter (x .hour) ∷ stamps xs) =
+      append-assoc dates (dateOn l ∷ []) (stamps xs)
+      ∙ ap (λ (s : List ℕ). dates ++ (s ∷ stamps xs)) (hour-date year quarter name g named So2Concentration (omega arith) x) in
+      rw (
+        framed-type So2Concentration name l (hour-framed year quarter name g named So2Concentration (omega arith) x),
+        walkHours,
+        hour-named year quarter name g named x (b .1) w from (b .0),
+        add-one (x .hour),
+      )
+      (hours-walked xs (line + 1) (suc (x .hour)) (dates ++ (dateOn l ∷ [])) later (a .1) (b .2) o
+      ∙ ap₂ (λ (n : ℕ) (s : List (List ℕ)). walkLater first (period year quarter name g named) n s later) e d)
+
+  module _ (a : AllWritable year quarter hs) (r : hoursRise (hoursInQuarter year quarter) 0 hs ≡ true) (few : length hs ≤ 2208) where
+    abbrev pub own : Report
+    own = record { period = period year quarter name g named; shape = shape (length hs) }
+
+    read-ended : (file : List ℕ) → last file ≡ 10 → readOf file ≡ walk (lines file)
+    unfolding readOf
+    read-ended file e = rw (eq-eqb (last file) 10 e, readOf)
+
+    walk-first : (ls : List (List ℕ)) → walk (first ∷ ls) ≡ walkHours first (period year quarter name g named) 2 0 [] ls
+    unfolding walk first
+    walk-first ls = rw (facility-named year quarter name g named, walk)
+
+    pub report-clean : readOf (report year quarter name hs) ≡ Clean own
+    unfolding walkLater recordsOf first
+    report-clean =
+        read-ended (report year quarter name hs) report-last
+        ∙ ap walk report-lines
+        ∙ walk-first (records So2Concentration ++ recordsIn laterTypes)
+        ∙ hours-walked hs 2 0 [] (recordsIn laterTypes) a r (later-other laterTypes (only-once So2Concentration))
+        ∙ matches-clean (reportOf (period year quarter name g named) (stamps hs)) first (2 + length hs) (runsOf laterTypes (stamps hs))
+        (recordsIn laterTypes) (types-due a few laterTypes refl)
+        ∙ ap (λ (n : ℕ). Clean (record { period = period year quarter name g named; shape = shape n })) (length-map hs (λ h. stampOf year quarter (h .hour)))

@@ -1,0 +1,87 @@
+-- A line that is due: what every line is tried for, its date and its values, in this order.
+use mathlib.Core.Path.{_≡_, sym, _∙_}
+use mathlib.Core.List.{List}
+use Prim.Native.Nat.{ℕ}
+use native.Mathlib.Omega.{arith}
+use lib.ListN.{length, take}
+use lib.Seq.{length-take-le}
+use borrow.Author.Needs.{needs}
+use Rattle.layout.specs.Layout.{lengthOf}
+use Rattle.layout.specs.declared.RecordType.{RecordType}
+use Rattle.lines.specs.Lines.{firstLine}
+use Rattle.lines.specs.LineFaults.{shapeFault, commonFault, dueFault}
+use Rattle.lines.specs.FaultLaws.{common-shape}
+use Rattle.lines.proofs.Chains.{first-of, second-of, third-of}
+use Rattle.lines.proofs.Shapes.{line-known, line-length, line-room}
+use Rattle.lines.proofs.due_fault.Statement.{statement}
+use Rattle.lines.proofs.due_fault.Tie as tie
+
+-- the line, once it has no fault that every line is tried for
+module _ (c : tie.After-line-length) where
+  abbrev t : RecordType
+  t = c .before .before .before .before .before .before .args .t
+
+  abbrev rest : List ℕ
+  rest = c .before .before .before .before .before .before .args .rest .now
+
+  abbrev line : List ℕ
+  line = take (c .line-length .result) rest
+
+  common : commonFault (c .before .before .before .before .before .before .args .facility .now) t (firstLine rest) ≡ 0
+  common = sym (c .before .before .common-fault .ensures) ∙ c .before .if1 .left
+
+  fine : shapeFault t (firstLine rest) ≡ 0
+  fine = common-shape _ t (firstLine rest) common
+
+  known : firstLine rest ≡ line
+  known = line-known t rest fine (c .line-length .result) (c .line-length .ensures .0)
+
+  long : length line ≡ lengthOf t
+  long = line-length t rest fine (c .line-length .result) (c .line-length .ensures .0)
+
+common-fault-requires : tie.Need-common-fault-requires
+common-fault-requires c κs = search needs
+
+returns : tie.Need-returns
+unfolding dueFault
+returns c = first-of _ _ _ (c .before .common-fault .ensures) (λ e. omega arith)
+
+line-length-requires : tie.Need-line-length-requires
+line-length-requires c κs = search needs
+
+slice-aggregate-line : tie.Need-slice-aggregate-line
+slice-aggregate-line c =
+    let k = c .before in
+    sym (length-take-le (k .line-length .result) (rest k) (line-room (t k) (rest k) (fine k) (k .line-length .result) (k .line-length .ensures .0)))
+
+date-fault-requires : tie.Need-date-fault-requires
+date-fault-requires c κs = long (c .before)
+
+returns-2 : tie.Need-returns-2
+unfolding dueFault
+returns-2 c =
+    let k = c .before .before .before in
+    second-of _ _ _ _ (common k) (rw (← known k) at (c .before .date-fault .ensures)) (λ e. omega arith)
+
+values-fault-requires : tie.Need-values-fault-requires
+values-fault-requires c κs = long (c .before .before .before)
+
+returns-3 : tie.Need-returns-3
+unfolding dueFault
+returns-3 c =
+    let k = c .before .before .before .before in
+    let d = rw (← known k) at (c .before .before .date-fault .ensures) in
+    third-of _ _ _ _ (common k) (sym d ∙ c .before .if2 .left) (rw (← known k) at (c .values-fault .ensures))
+
+pub due-fault-spec : {M : Type 1} → statement M
+due-fault-spec =
+    tie.close
+    (tie.spec
+    common-fault-requires
+    returns
+    line-length-requires
+    slice-aggregate-line
+    date-fault-requires
+    returns-2
+    values-fault-requires
+    returns-3)

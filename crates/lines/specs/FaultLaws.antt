@@ -1,0 +1,163 @@
+-- What a line without fault is like: its length, its type, and every value within its range.
+use Prim.Native.Nat.{ℕ, zero, suc, _+_, _-_, _≤_, _<_}
+use mathlib.Core.Path.{_≡_, refl, sym, ap, _∙_}
+use mathlib.Core.List.{List, [], _∷_}
+use mathlib.Core.Bool.{Bool, true, false, not}
+use native.Mathlib.Omega.{arith}
+use native.Mathlib.Nat.{le-of-suc-le-suc, not-suc-le-zero}
+use lib.Dec.{eqb, leb}
+use lib.ListN.{length, take, drop, getD}
+use lib.Seq.{drop-drop, take-take}
+use borrow.Author.Tests.{eqb-true, leb-true}
+use Rattle.columns.specs.Bytes.{isBlank, all, same}
+use Rattle.columns.specs.BytesLaws.{same-eq}
+use Rattle.columns.specs.Columns.{columns}
+use Rattle.columns.specs.Number.{numberOf}
+use Rattle.columns.specs.declared.Field.{Field}
+use Rattle.columns.specs.declared.Field.the-variants.{Blank, Malformed, Number}
+use Rattle.calendar.specs.Calendar.{IsQuarter}
+use Rattle.calendar.specs.declared.QuarterHour.{QuarterHour}
+use Rattle.calendar.specs.declared.QuarterHour.the-variants.{At, Outside}
+use Rattle.layout.specs.Layout.{codeOf, lengthOf, dateColumn, typeWidth, typeDigits, yearDigits, quarterDigit, valuesOf, Within, within}
+use Rattle.layout.specs.LayoutLaws.{within-true}
+use Rattle.layout.specs.TypeLaws.{digits-tell}
+use Rattle.layout.specs.declared.RecordType.{RecordType}
+use Rattle.layout.specs.declared.RecordType.the-variants.{Facility, So2Concentration}
+use Rattle.layout.specs.declared.Value.{Value}
+use Rattle.stamp.specs.Stamp.{stampHour}
+use Rattle.stamp.specs.StampLaws.{stamp-below}
+use Rattle.lines.specs.LineFaults.{_orElse_, unless, typeIs, shapeFault, stackOf, stackFault, commonFault, fieldFault, fieldIn, valuesFault, digitsIn, periodOn, facilityFault, facilityLine, risingFault, dateOn, hourOn, hourFault, hourNumber, hourLine, Due, dateFault, dueFault}
+use Rattle.lines.specs.declared.Period.{Period}
+use Rattle.lines.specs.declared.FacilityLine.{FacilityLine}
+use Rattle.lines.specs.declared.FacilityLine.the-variants.{Of, Faulty as FaultyFacility}
+use Rattle.lines.specs.declared.HourLine.{HourLine}
+use Rattle.lines.specs.declared.HourLine.the-variants.{At as OfHour, Faulty as FaultyHour}
+
+pub or-zero : (a b : ℕ) → a orElse b ≡ 0 → (a ≡ 0) × (b ≡ 0)
+or-zero zero b e = (refl, e)
+or-zero (suc a) b e = absurd (omega arith)
+
+pub unless-zero : (t : Bool) (k : ℕ) → unless t (suc k) ≡ 0 → t ≡ true
+unless-zero true k e = refl
+unless-zero false k e = absurd (omega arith)
+
+module _ (t : RecordType) (line : List ℕ) (e : shapeFault t line ≡ 0) where
+  pub shape-type : typeIs t line ≡ true
+  unfolding shapeFault
+  shape-type = unless-zero (typeIs t line) 1 (or-zero (unless (typeIs t line) 2) _ e .0)
+
+  pub shape-length : length line ≡ lengthOf t
+  unfolding shapeFault
+  shape-length =
+      let r = or-zero (unless (typeIs t line) 2) _ e .1 in
+      eqb-true _ _ (unless-zero (eqb (length line) (lengthOf t)) 2 (or-zero (unless (eqb (length line) (lengthOf t)) 3) _ r .0))
+
+-- a line of one type is of another exactly where they have the same digits
+pub type-same : (t u : RecordType) (line : List ℕ) → typeIs t line ≡ true → typeIs u line ≡ eqb (codeOf t) (codeOf u)
+unfolding typeIs
+type-same t u line e = rw (same-eq (take typeWidth line) (typeDigits t) .0 e) (digits-tell t u)
+
+-- the number in a field without fault lies in the value's range
+pub field-within : (v : Value) (f : Field) → fieldFault v f ≡ 0 → Within v (numberOf f)
+unfolding fieldFault numberOf
+field-within v Blank e = absurd (omega arith)
+field-within v Malformed e = absurd (omega arith)
+field-within v (Number k) e =
+    within-true v k (unless-zero (within v k) 8 e)
+
+pub values-within : (vs : List Value) (line : List ℕ) → valuesFault vs line ≡ 0 → (i : ℕ) (d : Value) → i < length vs →
+    Within (getD vs i d) (numberOf (fieldIn (getD vs i d) line))
+unfolding valuesFault
+values-within [] line e i d h = absurd (not-suc-le-zero h)
+values-within (v ∷ vs) line e zero d h = field-within v (fieldIn v line) (or-zero (fieldFault v (fieldIn v line)) _ e .0)
+values-within (v ∷ vs) line e (suc i) d h = values-within vs line (or-zero (fieldFault v (fieldIn v line)) _ e .1) i d (le-of-suc-le-suc h)
+
+-- the parts of a line's fault
+
+module _ (facility : List ℕ) (t : RecordType) (line : List ℕ) (e : commonFault facility t line ≡ 0) where
+  pub common-shape : shapeFault t line ≡ 0
+  unfolding commonFault
+  common-shape = or-zero (shapeFault t line) _ e .0
+
+module _ (line : List ℕ) (e : facilityFault line ≡ 0) where
+  pub facility-shape : shapeFault Facility line ≡ 0
+  unfolding facilityFault
+  facility-shape = or-zero (shapeFault Facility line) _ e .0
+
+  facility-ranges : (unless (within yearDigits (digitsIn yearDigits line)) 6 ≡ 0) × (unless (within quarterDigit (digitsIn quarterDigit line)) 6 ≡ 0)
+  unfolding facilityFault
+  facility-ranges =
+      or-zero (unless (within yearDigits (digitsIn yearDigits line)) 6) _
+      (or-zero (unless (not (all isBlank (stackOf line))) 5) _ (or-zero (shapeFault Facility line) _ e .1) .1)
+
+  pub facility-year : Within yearDigits (periodOn line .year)
+  facility-year = within-true yearDigits _ (unless-zero (within yearDigits (digitsIn yearDigits line)) 5 (facility-ranges .0))
+
+  pub facility-quarter : Within quarterDigit (periodOn line .quarter)
+  facility-quarter = within-true quarterDigit _ (unless-zero (within quarterDigit (digitsIn quarterDigit line)) 5 (facility-ranges .1))
+
+module _ (facility : List ℕ) (period : Period) (from : ℕ) (line : List ℕ) (e : hourFault facility period from line ≡ 0) where
+  pub hour-shape : shapeFault So2Concentration line ≡ 0
+  unfolding hourFault
+  hour-shape = common-shape facility So2Concentration line (or-zero (commonFault facility So2Concentration line) _ e .0)
+
+  hour-parts : (risingFault from (hourOn period line) ≡ 0) × (valuesFault (valuesOf So2Concentration) line ≡ 0)
+  unfolding hourFault
+  hour-parts = or-zero (risingFault from (hourOn period line)) _ (or-zero (commonFault facility So2Concentration line) _ e .1)
+
+  pub hour-values : valuesFault (valuesOf So2Concentration) line ≡ 0
+  hour-values = hour-parts .1
+
+  -- its hour is one of the quarter, and not below `from`
+  pub hour-rises : IsQuarter (period .quarter) → (from ≤ hourNumber (hourOn period line)) × (hourNumber (hourOn period line) < 2208)
+  unfolding risingFault hourNumber
+  hour-rises q = go (hourOn period line) refl (hour-parts .0)
+    where
+      go : (h : QuarterHour) → hourOn period line ≡ h → risingFault from h ≡ 0 → (from ≤ hourNumber h) × (hourNumber h < 2208)
+      go Outside k f = absurd (omega arith)
+      go (At h) k f = (leb-true from h (unless-zero (leb from h) 5 f), stamp-below (period .year) (period .quarter) q (dateOn line) h k)
+
+-- what lines 100 and 200 say, they say without fault
+
+pub facility-said : (line : List ℕ) (period : Period) → facilityLine line ≡ Of period → (facilityFault line ≡ 0) × (periodOn line ≡ period)
+unfolding facilityLine
+facility-said line period e = go (facilityFault line) refl e
+  where
+    go : (f : ℕ) → facilityFault line ≡ f → elim f [ zero ↦ Of (periodOn line) | suc c ↦ FaultyFacility (suc c) ] ≡ Of period →
+        (facilityFault line ≡ 0) × (periodOn line ≡ period)
+    go zero k w = (k, cc)
+    go (suc c) k w = absurd (let z : _≡_ {A = ℕ} 0 1 = cc in omega arith)
+
+pub hour-said : (facility : List ℕ) (period : Period) (from : ℕ) (line : List ℕ) (hour : ℕ) → hourLine facility period from line ≡ OfHour hour →
+    (hourFault facility period from line ≡ 0) × (hourNumber (hourOn period line) ≡ hour)
+unfolding hourLine
+hour-said facility period from line hour e = go (hourFault facility period from line) refl e
+  where
+    go : (f : ℕ) → hourFault facility period from line ≡ f →
+        elim f [ zero ↦ OfHour (hourNumber (hourOn period line)) | suc c ↦ FaultyHour (suc c) ] ≡ OfHour hour →
+        (hourFault facility period from line ≡ 0) × (hourNumber (hourOn period line) ≡ hour)
+    go zero k w = (k, cc)
+    go (suc c) k w = absurd (let z : _≡_ {A = ℕ} 0 1 = cc in omega arith)
+
+module _ (facility : List ℕ) (d : Due) (line : List ℕ) (e : dueFault facility d line ≡ 0) where
+  pub due-shape : shapeFault (d .type) line ≡ 0
+  unfolding dueFault
+  due-shape = common-shape facility (d .type) line (or-zero (commonFault facility (d .type) line) _ e .0)
+
+  pub due-values : valuesFault (valuesOf (d .type)) line ≡ 0
+  unfolding dueFault
+  due-values = or-zero (dateFault (dateColumn (d .type)) (d .date) line) _ (or-zero (commonFault facility (d .type) line) _ e .1) .1
+
+-- columns of a line are columns of the file
+take-drop-take : (w a m : ℕ) (l : List ℕ) → a + w ≤ m → take w (drop a (take m l)) ≡ take w (drop a l)
+take-drop-take w zero m l h = take-take w m l (omega arith)
+take-drop-take w (suc a) zero l h = absurd (omega arith)
+take-drop-take w (suc a) (suc m) [] h = refl
+take-drop-take w (suc a) (suc m) (x ∷ xs) h = take-drop-take w a m xs (omega arith)
+
+pub columns-of-line : (file : List ℕ) (at long start width : ℕ) → 1 ≤ start → start - 1 + width ≤ long →
+    columns start width (take long (drop at file)) ≡ columns (at + start) width file
+unfolding columns
+columns-of-line file at long start width p h =
+    let e : at + (start - 1) ≡ at + start - 1 = omega arith in
+    take-drop-take width (start - 1) long (drop at file) h ∙ ap (take width) (drop-drop (start - 1) at file ∙ ap (λ (n : ℕ). drop n file) e)

@@ -1,0 +1,98 @@
+// The faults of one line, in the order in which they are looked for, and what lines 100 and 200 say.
+mod faults;
+pub mod shape;
+
+use calendar::QuarterHour;
+use layout::RecordType;
+ghost use mathlib.Core.Path.{_≡_};
+ghost use Prim.Native.Nat.{_≤_};
+ghost use lib.ListN.{length};
+ghost use Rattle.calendar.specs.Calendar.{IsQuarter};
+ghost use Rattle.layout.specs.Layout.{lengthOf};
+ghost use Rattle.lines.specs.Lines.{firstLine};
+ghost use Rattle.lines.specs.LineFaults.{facilityLine, hourLine, dueOf, dueFault};
+
+// The year and the quarter that a report is of.
+pub struct Period {
+    pub year: u64,
+    pub quarter: u64,
+}
+
+// What line 100 says, or the number of its fault.
+pub enum FacilityLine {
+    Of(Period),
+    Faulty(u64),
+}
+
+// The hour of the quarter that a 200 line is for, or the number of its fault.
+pub enum HourLine {
+    At(u64),
+    Faulty(u64),
+}
+
+// Line 100.
+pub fn facility_line(rest: &[u8]) -> FacilityLine
+    ensures { λ r. ⌜ r ≡ facilityLine (firstLine (now (rest .entry))) ⌝ }
+{
+    let fault = shape::shape_fault(rest, RecordType::Facility);
+    if fault != 0 {
+        return FacilityLine::Faulty(fault);
+    }
+    let line = &rest[..layout::FACILITY_LENGTH];
+    if columns::all_blank(&line[faults::STACK_FROM..faults::STACK_TO]) {
+        return FacilityLine::Faulty(5);
+    }
+    let year = faults::digits_in(line, layout::YEAR);
+    if !layout::within(layout::YEAR, year) {
+        return FacilityLine::Faulty(6);
+    }
+    let quarter = faults::digits_in(line, layout::QUARTER);
+    if !layout::within(layout::QUARTER, quarter) {
+        return FacilityLine::Faulty(6);
+    }
+    FacilityLine::Of(Period { year, quarter })
+}
+
+// A 200 line, whose hour of the quarter must be at least `from`.
+pub fn hour_line(facility: &[u8], period: Period, from: u64, rest: &[u8]) -> HourLine
+    requires { ⌜ (lengthOf RecordType.Facility ≤ length (now facility)) × IsQuarter (period .quarter) ⌝ }
+    ensures { λ r. ⌜ r ≡ hourLine (now (facility .entry)) period from (firstLine (now (rest .entry))) ⌝ }
+{
+    let common = faults::common_fault(facility, RecordType::So2Concentration, rest);
+    if common != 0 {
+        return HourLine::Faulty(common);
+    }
+    let line = &rest[..layout::SO2_LENGTH];
+    let hour = stamp::read_stamp(line, layout::SO2_DATE, period.year, period.quarter);
+    match hour {
+        QuarterHour::At(at) => {
+            if at < from {
+                return HourLine::Faulty(6);
+            }
+            let fault = faults::values_fault(line, RecordType::So2Concentration);
+            if fault != 0 {
+                return HourLine::Faulty(fault);
+            }
+            HourLine::At(at)
+        }
+        QuarterHour::Outside => HourLine::Faulty(6),
+    }
+}
+
+// The fault of a line that is due with its type and date; 0 is none.
+pub fn due_fault(facility: &[u8], t: RecordType, date: &[u8], rest: &[u8]) -> u64
+    requires { ⌜ lengthOf RecordType.Facility ≤ length (now facility) ⌝ }
+    ensures { λ r. ⌜ r ≡ dueFault (now (facility .entry)) (dueOf t (now (date .entry))) (firstLine (now (rest .entry))) ⌝ }
+{
+    let common = faults::common_fault(facility, t, rest);
+    if common != 0 {
+        return common;
+    }
+    let long = layout::line_length(t);
+    let line = &rest[..long];
+    let dated = faults::date_fault(line, t, date);
+    if dated != 0 {
+        return dated;
+    }
+    faults::values_fault(line, t)
+}

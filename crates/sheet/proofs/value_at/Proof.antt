@@ -1,0 +1,20 @@
+-- `sheet::value_at` meets its contract.
+use borrow.Author.Needs.{needs}
+use Rattle.sheet.proofs.value_at.Statement.{statement}
+use Rattle.sheet.proofs.value_at.Tie as tie
+
+mul-word-apart : tie.Need-mul-word-apart
+mul-word-apart c = search needs
+
+shared-slice-read-word-apart : tie.Need-shared-slice-read-word-apart
+shared-slice-read-word-apart c = search needs
+
+word-apart-requires : tie.Need-word-apart-requires
+word-apart-requires c κs = search needs
+
+returns : tie.Need-returns
+returns c = cc
+
+pub value-at-spec : {M : Type 1} → statement M
+value-at-spec =
+    tie.close (tie.spec mul-word-apart shared-slice-read-word-apart word-apart-requires returns)

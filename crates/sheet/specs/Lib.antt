@@ -1,0 +1,4 @@
+pub mod Sheet
+pub mod SheetTests
+pub mod SheetLaws
+pub mod TestLaws

@@ -1,0 +1,53 @@
+-- What 31 and 32 try of a sheet.
+use Prim.Native.Nat.{ℕ, zero, suc, _%_}
+use mathlib.Core.List.{List, [], _∷_}
+use mathlib.Core.Bool.{Bool, true, _&&_, not}
+use lib.ListN.{length}
+use lib.Dec.{eqb, leb, ltb}
+use Rattle.columns.specs.Bytes.{all, isBlank, isPrintable}
+use Rattle.calendar.specs.Calendar.{hoursInQuarter}
+use Rattle.layout.specs.Layout.{within, yearDigits, quarterDigit, timeHours, so2Ppm, noxPpm, co2Percent, flowScfh, fFactor}
+use Rattle.sheet.specs.Sheet.{hourWords, sheetKind, hourCount, hoursOf}
+use Rattle.sheet.specs.declared.SheetHour.{SheetHour}
+
+-- a test over every hour
+unfoldable pub every : (SheetHour → Bool) → List SheetHour → Bool
+every p [] = true
+every p (h ∷ hs) = p h && every p hs
+
+-- 31: year, quarter and stack name
+unfoldable pub headingHolds : ℕ → ℕ → List ℕ → Bool
+headingHolds year quarter name = within yearDigits year && within quarterDigit quarter && not (all isBlank name) && all isPrintable name
+
+-- 31: the kinds of so many words of hour k, from word j on, are j, j + 1 and so on
+unfoldable pub kindsRise : List ℕ → ℕ → ℕ → ℕ → Bool
+kindsRise sheet k j zero = true
+kindsRise sheet k j (suc left) = eqb (sheetKind sheet k j) j && kindsRise sheet k (suc j) left
+
+abbrev pub hourKinds : List ℕ → ℕ → Bool
+hourKinds sheet k = kindsRise sheet k 0 hourWords
+
+-- 31: the kinds of so many hours, from hour k on
+unfoldable pub kindsHold : List ℕ → ℕ → ℕ → Bool
+kindsHold sheet k zero = true
+kindsHold sheet k (suc left) = hourKinds sheet k && kindsHold sheet (suc k) left
+
+-- 31: the hours rise, from `from` on, and lie below the number of hours of the quarter
+
+unfoldable pub hourHolds : ℕ → ℕ → SheetHour → Bool
+hourHolds below from h = leb from (h .hour) && ltb (h .hour) below
+
+unfoldable pub hoursRise : ℕ → ℕ → List SheetHour → Bool
+hoursRise below from [] = true
+hoursRise below from (h ∷ hs) = hourHolds below from h && hoursRise below (suc (h .hour)) hs
+
+unfoldable pub sheetHolds : ℕ → ℕ → List ℕ → List ℕ → Bool
+sheetHolds year quarter name sheet =
+    headingHolds year quarter name && eqb (length sheet % hourWords) 0 && kindsHold sheet 0 (hourCount sheet)
+    && hoursRise (hoursInQuarter year quarter) 0 (hoursOf sheet)
+
+-- 32: time and readings lie in the ranges of their columns
+unfoldable pub readingsHold : SheetHour → Bool
+readingsHold h =
+    within timeHours (h .time) && within so2Ppm (h .readings .so2) && within noxPpm (h .readings .nox)
+    && within co2Percent (h .readings .co2) && within flowScfh (h .readings .flow) && within fFactor (h .readings .fc)

@@ -1,0 +1,129 @@
+-- What 31 and 32 leave: a right heading, hours of the quarter that rise, no more of them than it has, values within their ranges.
+use Prim.Native.Nat.{ℕ, zero, suc, _+_, _-_, _%_, _≤_, _<_}
+use mathlib.Core.Path.{_≡_}
+use mathlib.Core.List.{List, [], _∷_}
+use mathlib.Core.Bool.{Bool, true, not}
+use native.Mathlib.Omega.{arith}
+use lib.ListN.{length}
+use borrow.Author.Tests.{leb-true, ltb-true, eqb-true}
+use Rattle.columns.specs.Bytes.{all, isBlank, isPrintable}
+use Rattle.calendar.specs.Calendar.{IsQuarter, hoursInQuarter}
+use Rattle.calendar.specs.CalendarLaws.{hours-in-quarter}
+use Rattle.layout.specs.Layout.{Within, Held, yearDigits, timeHours}
+use Rattle.layout.specs.LayoutLaws.{both, within-true}
+use Rattle.formulas.specs.Hour.{ReadingsWithin}
+use Rattle.sheet.specs.Sheet.{hourWords, hourAt, hourCount, shapeOf, hoursFrom, hoursOf}
+use Rattle.sheet.specs.SheetTests.{every, headingHolds, kindsHold, hourHolds, hoursRise, sheetHolds, readingsHold}
+use Rattle.sheet.specs.SheetLaws.{hours-count}
+use Rattle.sheet.specs.declared.SheetHour.{SheetHour}
+
+pub record Heading (year quarter : ℕ) (name : List ℕ) : Type 0 where
+  pub yearWithin : Within yearDigits year
+  pub isQuarter : IsQuarter quarter
+  pub named : not (all isBlank name) ≡ true
+  pub printable : all isPrintable name ≡ true
+
+pub heading-true : (year quarter : ℕ) (name : List ℕ) → headingHolds year quarter name ≡ true → Heading year quarter name
+unfolding headingHolds
+heading-true year quarter name e =
+    let a = both _ _ e in
+    let b = both _ _ (a .0) in
+    let c = both _ _ (b .0) in
+    let q = within-true _ quarter (c .1) in
+    record { yearWithin = within-true _ year (c .0); isQuarter = record { least = q .least; most = q .most }; named = b .1; printable = a .1 }
+
+-- a sheet that 31 does not refuse
+pub record Shaped (year quarter : ℕ) (name sheet : List ℕ) : Type 0 where
+  pub heading : Heading year quarter name
+  pub words : length sheet % hourWords ≡ 0
+  pub kinds : kindsHold sheet 0 (hourCount sheet) ≡ true
+  pub rises : hoursRise (hoursInQuarter year quarter) 0 (hoursOf sheet) ≡ true
+
+pub sheet-true : (year quarter : ℕ) (name sheet : List ℕ) → sheetHolds year quarter name sheet ≡ true → Shaped year quarter name sheet
+unfolding sheetHolds
+sheet-true year quarter name sheet e =
+    let a = both _ _ e in
+    let b = both _ _ (a .0) in
+    let c = both (headingHolds year quarter name) _ (b .0) in
+    record { heading = heading-true year quarter name (c .0); words = eqb-true _ _ (c .1); kinds = b .1; rises = a .1 }
+
+-- a test of all hours is one of each
+module _ (p : SheetHour → Bool) where
+  pub every-first : (h : SheetHour) (hs : List SheetHour) → every p (h ∷ hs) ≡ true → (p h ≡ true) × (every p hs ≡ true)
+  unfolding every
+  every-first h hs e = both (p h) _ e
+
+  every-at : (sheet : List ℕ) (k left j : ℕ) → every p (hoursFrom sheet k left) ≡ true → j < left → p (hourAt sheet (k + j)) ≡ true
+  unfolding hoursFrom
+  every-at sheet k zero j e h = absurd (omega arith)
+  every-at sheet k (suc left) zero e h =
+      let z : k + 0 ≡ k = omega arith in
+      rw z (every-first (hourAt sheet k) (hoursFrom sheet (suc k) left) e .0)
+  every-at sheet k (suc left) (suc j) e h =
+      let s : k + suc j ≡ suc k + j = omega arith in
+      rw s (every-at sheet (suc k) left j (every-first (hourAt sheet k) (hoursFrom sheet (suc k) left) e .1) (omega arith))
+
+  pub every-hour : (sheet : List ℕ) (k : ℕ) → every p (hoursOf sheet) ≡ true → k < hourCount sheet → p (hourAt sheet k) ≡ true
+  unfolding hoursOf
+  every-hour sheet k e h =
+      let z : 0 + k ≡ k = omega arith in
+      rw z at (every-at sheet 0 (hourCount sheet) k e h)
+
+-- hours that rise below a number are no more than it, and each is below it
+module _ (below : ℕ) where
+  pub hour-true : (from : ℕ) (h : SheetHour) → hourHolds below from h ≡ true → (from ≤ h .hour) × (h .hour < below)
+  unfolding hourHolds
+  hour-true from h e = let b = both _ _ e in (leb-true from (h .hour) (b .0), ltb-true (h .hour) below (b .1))
+
+  pub rise-first : (from : ℕ) (h : SheetHour) (hs : List SheetHour) → hoursRise below from (h ∷ hs) ≡ true →
+      (from ≤ h .hour) × (h .hour < below) × (hoursRise below (suc (h .hour)) hs ≡ true)
+  unfolding hoursRise
+  rise-first from h hs e =
+      let a = both (hourHolds below from h) _ e in
+      let b = hour-true from h (a .0) in
+      (b .0, b .1, a .1)
+
+  pub rise-count : (from : ℕ) (hs : List SheetHour) → hoursRise below from hs ≡ true → length hs ≤ below - from
+  rise-count from [] e = omega arith
+  rise-count from (h ∷ hs) e =
+      let r = rise-first from h hs e in
+      omega (arith, r, rise-count (suc (h .hour)) hs (r .2))
+
+  rise-at : (from : ℕ) (sheet : List ℕ) (k left j : ℕ) → hoursRise below from (hoursFrom sheet k left) ≡ true → j < left → hourAt sheet (k + j) .hour < below
+  unfolding hoursFrom
+  rise-at from sheet k zero j e h = absurd (omega arith)
+  rise-at from sheet k (suc left) zero e h =
+      let z : k + 0 ≡ k = omega arith in
+      rw z (rise-first from (hourAt sheet k) (hoursFrom sheet (suc k) left) e .1)
+  rise-at from sheet k (suc left) (suc j) e h =
+      let s : k + suc j ≡ suc k + j = omega arith in
+      rw s (rise-at (suc (hourAt sheet k .hour)) sheet (suc k) left j (rise-first from (hourAt sheet k) (hoursFrom sheet (suc k) left) e .2) (omega arith))
+
+  pub rise-hour : (sheet : List ℕ) (k : ℕ) → hoursRise below 0 (hoursOf sheet) ≡ true → k < hourCount sheet → hourAt sheet k .hour < below
+  unfolding hoursOf
+  rise-hour sheet k e h =
+      let z : 0 + k ≡ k = omega arith in
+      rw z at (rise-at 0 sheet 0 (hourCount sheet) k e h)
+
+pub shape-held : (year quarter : ℕ) (name sheet : List ℕ) → Shaped year quarter name sheet → Held (shapeOf sheet)
+shape-held year quarter name sheet s =
+    record { hours = omega (arith, rise-count _ _ _ (s .rises), hours-count sheet, hours-in-quarter year quarter (s .heading .isQuarter)) }
+
+-- an hour that 32 does not refuse
+pub readings-true : (h : SheetHour) → readingsHold h ≡ true → Within timeHours (h .time) × ReadingsWithin (h .readings)
+unfolding readingsHold
+readings-true h e =
+    let a = both _ _ e in
+    let b = both _ _ (a .0) in
+    let c = both _ _ (b .0) in
+    let d = both _ _ (c .0) in
+    let f = both _ _ (d .0) in (
+      within-true _ _ (f .0),
+      record {
+        so2 = within-true _ _ (f .1);
+        nox = within-true _ _ (d .1);
+        co2 = within-true _ _ (c .1);
+        flow = within-true _ _ (b .1);
+        fc = within-true _ _ (a .1);
+      },
+    )

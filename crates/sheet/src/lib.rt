@@ -1,0 +1,123 @@
+// The sheet: six words to an operating hour, each with its kind in the top three of 32 bits and its value in the others. The tests of 31
+// and 32 are here; the writer says in which order they refuse.
+use formulas::hour::Readings;
+use layout::Shape;
+ghost use mathlib.Core.Path.{_≡_};
+ghost use Prim.Native.Nat.{_+_, _*_, _≤_, _<_};
+ghost use lib.ListN.{length, getD};
+ghost use Rattle.sheet.specs.Sheet.{valueOf, apart, hourWords, hourAt, shapeOf};
+ghost use Rattle.sheet.specs.SheetTests.{headingHolds, hourKinds, hourHolds, readingsHold};
+
+// An hour's words: hour and time, SO2, NOx, CO2, flow, Fc.
+pub const HOUR_WORDS: usize = 6;
+
+// A word is its kind times this and its value.
+pub const VALUE_SIZE: u64 = 536870912;
+
+// The first value of an hour is the hour of the quarter times this and the time.
+pub const TIME_SIZE: u64 = 128;
+
+// A word of the sheet taken apart.
+pub struct Word {
+    pub kind: u64,
+    pub value: u64,
+}
+
+// One operating hour as the sheet has it: the hour of the quarter (0 first), the time in hundredths of an hour, the readings.
+pub struct SheetHour {
+    pub hour: u64,
+    pub time: u64,
+    pub readings: Readings,
+}
+
+pub fn word_apart(word: u32) -> Word
+    ensures { λ r. ⌜ r ≡ apart word ⌝ }
+{
+    let bits = word as u64;
+    Word {
+        kind: bits / VALUE_SIZE,
+        value: bits % VALUE_SIZE,
+    }
+}
+
+fn value_at(sheet: &[u32], i: usize) -> u64
+    requires { ⌜ i < length (now sheet) ⌝ }
+    ensures { λ r. ⌜ r ≡ valueOf (getD (now (sheet .entry)) i 0) ⌝ }
+{
+    word_apart(sheet[i]).value
+}
+
+// The k-th hour of the sheet, from 0.
+pub fn hour_at(sheet: &[u32], k: usize) -> SheetHour
+    requires { ⌜ hourWords * k + hourWords ≤ length (now sheet) ⌝ }
+    ensures { λ r. ⌜ r ≡ hourAt (now (sheet .entry)) k ⌝ }
+{
+    let first = HOUR_WORDS * k;
+    let hour = value_at(sheet, first);
+    SheetHour {
+        hour: hour / TIME_SIZE,
+        time: hour % TIME_SIZE,
+        readings: Readings {
+            so2: value_at(sheet, first + 1),
+            nox: value_at(sheet, first + 2),
+            co2: value_at(sheet, first + 3),
+            flow: value_at(sheet, first + 4),
+            fc: value_at(sheet, first + 5),
+        },
+    }
+}
+
+// The shape of a sheet's report.
+pub fn shape_of(sheet: &[u32]) -> Shape
+    ensures { λ r. ⌜ r ≡ shapeOf (now (sheet .entry)) ⌝ }
+{
+    Shape {
+        hours: sheet.len() / HOUR_WORDS,
+    }
+}
+
+// 31: year, quarter and stack name.
+pub fn heading_holds(year: u64, quarter: u64, name: &[u8]) -> bool
+    ensures { λ r. ⌜ r ≡ headingHolds year quarter (now (name .entry)) ⌝ }
+{
+    layout::within(layout::YEAR, year)
+        & layout::within(layout::QUARTER, quarter)
+        & !columns::all_blank(name)
+        & columns::all_printable(name)
+}
+
+// 31: the kinds of the words of the k-th hour are 0, 1 and so on.
+pub fn kinds_hold(sheet: &[u32], k: usize) -> bool
+    requires { ⌜ hourWords * k + hourWords ≤ length (now sheet) ⌝ }
+    ensures { λ r. ⌜ r ≡ hourKinds (now (sheet .entry)) k ⌝ }
+{
+    let first = HOUR_WORDS * k;
+    let mut j = 0;
+    while j < HOUR_WORDS {
+        let kind = word_apart(sheet[first + j]).kind;
+        if kind != j as u64 {
+            return false;
+        }
+        j += 1;
+    }
+    true
+}
+
+// 31: an hour that is to rise from `from` on and lie below a number.
+pub fn hour_holds(below: u64, from: u64, h: SheetHour) -> bool
+    ensures { λ r. ⌜ r ≡ hourHolds below from h ⌝ }
+{
+    (from <= h.hour) & (h.hour < below)
+}
+
+// 32: time and readings lie in their ranges.
+pub fn readings_hold(h: SheetHour) -> bool
+    ensures { λ r. ⌜ r ≡ readingsHold h ⌝ }
+{
+    layout::within(layout::TIME_HOURS, h.time)
+        & layout::within(layout::SO2_PPM, h.readings.so2)
+        & layout::within(layout::NOX_PPM, h.readings.nox)
+        & layout::within(layout::CO2_PERCENT, h.readings.co2)
+        & layout::within(layout::FLOW_SCFH, h.readings.flow)
+        & layout::within(layout::F_FACTOR, h.readings.fc)
+}

@@ -1,0 +1,48 @@
+-- The totals of at most 2,208 hours whose figures lie in their columns fit theirs.
+use Prim.Native.Nat.{ℕ, zero, suc, _+_, _*_, _≤_, _<_}
+use mathlib.Core.Path.{_≡_}
+use mathlib.Core.List.{List, [], _∷_}
+use native.Mathlib.Omega.{arith}
+use native.Mathlib.Nat.{mul-le-mul, div-lt-iff-lt-mul}
+use lib.ListN.{length}
+use Rattle.exact.specs.Fraction.{over}
+use Rattle.exact.specs.Sums.{totalOf}
+use Rattle.layout.specs.Layout.{so2Tons, co2Tons, heatTotal, noxMean, Within}
+use Rattle.formulas.specs.Hour.{HourWithin, HoursWithin}
+use Rattle.formulas.specs.declared.hour.Hour.{Hour}
+use Rattle.totals.specs.Totals.{totalsOf, meanOf, quarterOf, quarterTotals}
+use Rattle.totals.specs.declared.Quarter.{Quarter}
+
+pub record QuarterWithin (q : Quarter) : Type 0 where
+  pub so2 : Within so2Tons (q .so2)
+  pub co2 : Within co2Tons (q .co2)
+  pub heat : Within heatTotal (q .heat)
+  pub nox : Within noxMean (q .nox)
+
+-- if one hour's share is at most c, then n hours' is at most n × c
+total-le : (m : Hour → ℕ) (c : ℕ) → ((h : Hour) → HourWithin h → m h ≤ c) → (hs : List Hour) → HoursWithin hs → totalOf m hs ≤ length hs * c
+unfolding totalOf
+total-le m c each [] w = omega arith
+total-le m c each (h ∷ hs) w = omega (arith, each h (w .0), total-le m c each hs (w .1))
+
+mean-le : (sum n : ℕ) → sum ≤ n * 99_999 → meanOf sum n ≤ 99_999
+unfolding meanOf over
+mean-le sum zero h = omega arith
+mean-le sum (suc n) h =
+    let d : 0 < 2 * (1 * (1000 * suc n)) = omega arith in
+    let l : 2 * (sum * 1 * 1 * 1000) + 1 * (1000 * suc n) < 100_000 * (2 * (1 * (1000 * suc n))) = omega arith in
+    omega (arith, div-lt-iff-lt-mul d .1 l)
+
+pub totals-fit : (hs : List Hour) → HoursWithin hs → length hs ≤ 2208 → QuarterWithin (quarterTotals hs)
+unfolding quarterTotals quarterOf totalsOf over
+totals-fit hs w b =
+    let s = total-le (λ h. h .figures .so2 * h .time) 99_999_900 (λ h r. omega (arith, mul-le-mul (r .figures .so2 .most) (r .time .most))) hs w in
+    let c = total-le (λ h. h .figures .co2 * h .time) 99_999_900 (λ h r. omega (arith, mul-le-mul (r .figures .co2 .most) (r .time .most))) hs w in
+    let e = total-le (λ h. h .figures .heat * h .time) 99_999_900 (λ h r. omega (arith, mul-le-mul (r .figures .heat .most) (r .time .most))) hs w in
+    let x = total-le (λ h. h .figures .nox) 99_999 (λ h r. r .figures .nox .most) hs w in
+    record {
+      so2 = record { least = omega arith; most = omega arith };
+      co2 = record { least = omega arith; most = omega arith };
+      heat = record { least = omega arith; most = omega arith };
+      nox = record { least = omega arith; most = mean-le _ _ x };
+    }
