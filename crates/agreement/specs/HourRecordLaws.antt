@@ -29,8 +29,10 @@ use Rattle.lines.specs.declared.HourLine.the-variants.{At as OfHour}
 use Rattle.sheet.specs.TestLaws.{Heading}
 use Rattle.sheet.specs.declared.SheetHour.{SheetHour}
 use Rattle.writer.specs.Recorded.{recordedHour}
-use Rattle.writer.specs.Written.{headed, valued, facilityRecord, hourValues, hourRecord, totalValues, totalsRecord}
-use Rattle.writer.specs.LineLaws.{facility-printable, hour-printable, totals-printable}
+use Rattle.records.specs.Records.{headed, valued, facilityRecord, hourValues, totalValues, totalsRecord}
+use Rattle.writer.specs.Written.{hourRecord}
+use Rattle.records.specs.RecordLaws.{facility-printable, totals-printable}
+use Rattle.writer.specs.LineLaws.{hour-printable}
 use Rattle.agreement.specs.RecordLaws.{Framed, framed-put, framed-headed, framed-type, framed-shape, framed-common, framed-valued, ValuesWithin, frontColumns, ordered, valued-before, valued-right}
 
 -- behind date and hour stand the values

@@ -24,7 +24,8 @@ use Rattle.reading.specs.RunLaws.{LineRun, AllOf, Typed, joined, runsFrom, orde
 use Rattle.sheet.specs.TestLaws.{Heading}
 use Rattle.sheet.specs.declared.SheetHour.{SheetHour}
 use Rattle.writer.specs.Recorded.{recordedHour, recordedHours}
-use Rattle.writer.specs.Written.{headed, hourValues, hourRecord, totalValues, totalsRecord, recordsOf, report}
+use Rattle.records.specs.Records.{headed, hourValues, totalValues, totalsRecord}
+use Rattle.writer.specs.Written.{hourRecord, recordsOf, report}
 use Rattle.writer.specs.ReportLaws.{EachRecord, hour-records, records-count}
 use Rattle.agreement.specs.RecordLaws.{framed-headed, ValuesWithin, value-back}
 use Rattle.agreement.specs.HourRecordLaws.{stamped, stamped-framed}

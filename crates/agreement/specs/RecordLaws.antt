@@ -21,7 +21,7 @@ use Rattle.layout.specs.LayoutLaws.{both, each, length-least, true-within}
 use Rattle.layout.specs.declared.Value.{Value}
 use Rattle.layout.specs.declared.RecordType.{RecordType}
 use Rattle.lines.specs.LineFaults.{_orElse_, unless, typeIs, shapeFault, stackOf, stackFault, commonFault, fieldFault, fieldIn, valuesFault}
-use Rattle.writer.specs.Written.{headed, valued}
+use Rattle.records.specs.Records.{headed, valued}
 
 -- a line with a type's length and digits and a stack name
 pub record Framed (t : RecordType) (name line : List ℕ) : Type 0 where

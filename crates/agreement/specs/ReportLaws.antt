@@ -38,7 +38,8 @@ use Rattle.sheet.specs.TestLaws.{Heading, rise-first, rise-count}
 use Rattle.sheet.specs.declared.SheetHour.{SheetHour}
 use Rattle.writer.specs.Recorded.{recordedHour, recordedHours}
 use Rattle.writer.specs.Writable.{HourWritable}
-use Rattle.writer.specs.Written.{ended, facilityRecord, hourValues, hourRecord, totalValues, totalsRecord, onceRecord, runRecords, recordsOf, lined, report}
+use Rattle.records.specs.Records.{ended, facilityRecord, hourValues, totalValues, totalsRecord}
+use Rattle.writer.specs.Written.{hourRecord, onceRecord, runRecords, recordsOf, lined, report}
 use Rattle.writer.specs.ReportLaws.{EachRecord, records-each, records-printable}
 use Rattle.agreement.specs.RecordLaws.{framed-type, ValuesWithin}
 use Rattle.agreement.specs.HourRecordLaws.{facility, period, facility-framed, facility-named, hour-framed, hour-date, hour-due, hour-named, totals-framed, totals-due}

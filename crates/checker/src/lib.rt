@@ -80,7 +80,7 @@ fn judge(file: &[u8], s: Shape) -> Answer
         if k == hours {
             break 'hours Refusal { number: 0, line: 0 };
         }
-        let hour = reading::hour(file, s, k);
+        let hour = recorded::hour(file, s, k);
         let mut j: usize = 0;
         while j < 4 {
             let q = quantity_at(j);
@@ -101,7 +101,7 @@ fn judge(file: &[u8], s: Shape) -> Answer
     compare(
         layout::line_of(s, RecordType::QuarterTotals, 0),
         totals.quarter(),
-        reading::totals(file, s),
+        recorded::totals(file, s),
     )
 }
 

@@ -25,9 +25,11 @@ use Rattle.layout.specs.declared.RecordType.the-variants.{Facility, QuarterTota
 use Rattle.layout.specs.declared.Shape.{Shape}
 use Rattle.sheet.specs.declared.SheetHour.{SheetHour}
 use Rattle.writer.specs.Recorded.{recordedHour, recordedHours}
-use Rattle.writer.specs.Written.{ended, facilityRecord, hourRecord, totalsRecord, recordsOf, report}
+use Rattle.records.specs.Records.{ended, facilityRecord, totalsRecord}
+use Rattle.writer.specs.Written.{hourRecord, recordsOf, report}
 use Rattle.writer.specs.HourLines.{hourLines, hoursLines}
-use Rattle.writer.specs.LineLaws.{facility-length, hour-length, totals-length}
+use Rattle.records.specs.RecordLaws.{facility-length, totals-length}
+use Rattle.writer.specs.LineLaws.{hour-length}
 use Rattle.writer.specs.ReportLaws.{ended-length, hour-records, behindRecord, record-place, report-length}
 use Rattle.writer.proofs.Puts.{Own, Right, unknown, put-fills, put-keeps}
 

@@ -14,7 +14,8 @@ use Rattle.layout.specs.declared.Shape.{Shape}
 use Rattle.sheet.specs.Sheet.{hourAt, shapeOf, hoursFrom, hoursOf}
 use Rattle.sheet.specs.SheetLaws.{hours-next, hours-end, hours-whole}
 use Rattle.writer.specs.Recorded.{recordedHour, recordedHours}
-use Rattle.writer.specs.HourLines.{HourFits, hourLines, hoursLines}
+use Rattle.records.specs.Room.{HourFits}
+use Rattle.writer.specs.HourLines.{hourLines, hoursLines}
 use Rattle.writer.specs.Writable.{Fits}
 
 -- the running totals

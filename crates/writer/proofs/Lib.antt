@@ -1,6 +1,5 @@
 pub mod OnePass
 pub mod FirstRefusal
-pub mod Filling
 pub mod Hours
 pub mod Puts
 pub mod HourLines

@@ -17,7 +17,8 @@ use Rattle.sheet.specs.Sheet.{hourAt, hoursFrom, hoursOf}
 use Rattle.sheet.specs.SheetTests.{every, headingHolds, kindsRise, kindsHold, hourHolds, hoursRise, sheetHolds, readingsHold}
 use Rattle.writer.specs.Recorded.{recordedHours}
 use Rattle.writer.specs.Refusals.{figuresHold, refusalOf}
-use Rattle.writer.specs.Written.{headed, valued, facilityRecord, hourRecord, totalsRecord, recordsOf, lined, report, answered, buffered}
+use Rattle.records.specs.Records.{headed, valued, facilityRecord, totalsRecord}
+use Rattle.writer.specs.Written.{hourRecord, recordsOf, lined, report, answered, buffered}
 use Rattle.writer.specs.declared.Written.the-variants.{Length}
 
 -- STACK1

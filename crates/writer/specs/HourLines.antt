@@ -11,14 +11,7 @@ use Rattle.layout.specs.declared.RecordType.{RecordType}
 use Rattle.layout.specs.declared.Shape.{Shape}
 use Rattle.sheet.specs.declared.SheetHour.{SheetHour}
 use Rattle.writer.specs.Recorded.{recordedHour}
-use Rattle.writer.specs.Written.{ended, datedRecord}
-
--- an hour of a report that a buffer has room for
-pub record HourFits (s : Shape) (k : ℕ) (name buffer : List ℕ) : Type 0 where
-  pub rank : k < s .hours
-  pub held : Held s
-  pub named : length name ≡ stackWidth
-  pub room : reportLength s ≤ length buffer
+use Rattle.records.specs.Records.{ended, datedRecord}
 
 -- the lines of hour k, one of each of these types, put at their offsets
 unfoldable pub hourLines : List ℕ → Shape → ℕ → List ℕ → Hour → List RecordType → List ℕ → List ℕ

@@ -21,8 +21,10 @@ use Rattle.layout.specs.declared.RecordType.the-variants.{Facility, QuarterTota
 use Rattle.layout.specs.declared.Shape.{Shape}
 use Rattle.sheet.specs.declared.SheetHour.{SheetHour}
 use Rattle.writer.specs.Recorded.{recordedHours}
-use Rattle.writer.specs.Written.{ended, facilityRecord, hourRecord, totalsRecord, onceRecord, runRecords, recordsOf, lined, report}
-use Rattle.writer.specs.LineLaws.{facility-length, hour-length, totals-length, facility-printable, hour-printable, totals-printable}
+use Rattle.records.specs.Records.{ended, facilityRecord, totalsRecord}
+use Rattle.writer.specs.Written.{hourRecord, onceRecord, runRecords, recordsOf, lined, report}
+use Rattle.records.specs.RecordLaws.{facility-length, totals-length, facility-printable, totals-printable}
+use Rattle.writer.specs.LineLaws.{hour-length, hour-printable}
 
 -- what holds of every record of a list
 abbrev pub EachRecord : (List ℕ → Type 0) → List (List ℕ) → Type 0

@@ -43,56 +43,14 @@ use Rattle.layout.specs.declared.RecordType.the-variants.{
 }
 use Rattle.sheet.specs.Sheet.{shapeOf, hoursOf}
 use Rattle.sheet.specs.declared.SheetHour.{SheetHour}
+use Rattle.records.specs.Records.{ended, facilityRecord, datedRecord, totalsRecord}
 use Rattle.writer.specs.Recorded.{recordedHour, recordedHours}
 use Rattle.writer.specs.Refusals.{refusalOf}
 use Rattle.writer.specs.declared.Written.{Written}
 use Rattle.writer.specs.declared.Written.the-variants.{Length, Refused}
 
--- type and stack name in an otherwise blank record
-unfoldable pub headed : RecordType → List ℕ → List ℕ
-headed t name = put stackStart name (put typeStart (typeDigits t) (replicate (lengthOf t) 32))
-
--- numbers in their columns, left to right
-unfoldable pub valued : List Value → List ℕ → List ℕ → List ℕ
-valued [] xs line = line
-valued (v ∷ vs) [] line = line
-valued (v ∷ vs) (x ∷ xs) line = valued vs xs (put (v .start) (written (v .width) (v .decimals) x) line)
-
--- a record and its byte 10
-abbrev pub ended : List ℕ → List ℕ
-ended line = line ++ (10 ∷ [])
-
-unfoldable pub facilityRecord : ℕ → ℕ → List ℕ → List ℕ
-facilityRecord year quarter name =
-    put (quarterDigit .start) (digitsOf (quarterDigit .width) quarter)
-    (put (yearDigits .start) (digitsOf (yearDigits .width) year) (headed Facility name))
-
--- the values of an hour in the record of a type, left to right
-abbrev pub hourValues : RecordType → Hour → List ℕ
-hourValues Facility h = []
-hourValues So2Concentration h = h .readings .so2 ∷ []
-hourValues NoxConcentration h = h .readings .nox ∷ []
-hourValues Co2Concentration h = h .readings .co2 ∷ []
-hourValues VolumetricFlow h = h .readings .flow ∷ []
-hourValues Operation h = h .time ∷ h .figures .heat ∷ []
-hourValues QuarterTotals h = []
-hourValues So2Mass h = h .figures .so2 ∷ []
-hourValues NoxRate h = h .readings .fc ∷ h .figures .nox ∷ []
-hourValues Co2Mass h = h .figures .co2 ∷ []
-
--- a record of an hour with these eight columns of date and hour
-abbrev pub datedRecord : List ℕ → RecordType → List ℕ → Hour → List ℕ
-datedRecord name t date h = valued (valuesOf t) (hourValues t h) (put (dateColumn t) date (headed t name))
-
 unfoldable pub hourRecord : ℕ → ℕ → List ℕ → RecordType → SheetHour → List ℕ
 hourRecord year quarter name t h = datedRecord name t (stampOf year quarter (h .hour)) (recordedHour h)
-
--- in the order of the columns of record 301
-abbrev pub totalValues : Quarter → List ℕ
-totalValues q = q .so2 ∷ q .co2 ∷ q .heat ∷ q .nox ∷ []
-
-unfoldable pub totalsRecord : List ℕ → Quarter → List ℕ
-totalsRecord name q = valued (valuesOf QuarterTotals) (totalValues q) (headed QuarterTotals name)
 
 -- the record of a type that a report has once: that of line 100 or that of line 301
 abbrev pub onceRecord : ℕ → ℕ → List ℕ → List SheetHour → RecordType → List ℕ

@@ -1,5 +1,4 @@
 // The writer: a sheet of readings becomes a quarterly report in a lent buffer.
-mod lines;
 mod refusals;
 mod report;
 

@@ -1,0 +1,55 @@
+-- The values of one operating hour, each where the layout has it.
+use Rattle.reading.specs.Recorded.{hourAt}
+use borrow.Author.Needs.{needs}
+use Rattle.recorded.proofs.hour.Statement.{statement}
+use Rattle.recorded.proofs.hour.Tie as tie
+
+value-in-requires : tie.Need-value-in-requires
+value-in-requires c κs = search needs
+
+value-in-requires-2 : tie.Need-value-in-requires-2
+value-in-requires-2 c κs = search needs
+
+value-in-requires-3 : tie.Need-value-in-requires-3
+value-in-requires-3 c κs = search needs
+
+value-in-requires-4 : tie.Need-value-in-requires-4
+value-in-requires-4 c κs = search needs
+
+value-in-requires-5 : tie.Need-value-in-requires-5
+value-in-requires-5 c κs = search needs
+
+value-in-requires-6 : tie.Need-value-in-requires-6
+value-in-requires-6 c κs = search needs
+
+value-in-requires-7 : tie.Need-value-in-requires-7
+value-in-requires-7 c κs = search needs
+
+value-in-requires-8 : tie.Need-value-in-requires-8
+value-in-requires-8 c κs = search needs
+
+value-in-requires-9 : tie.Need-value-in-requires-9
+value-in-requires-9 c κs = search needs
+
+value-in-requires-10 : tie.Need-value-in-requires-10
+value-in-requires-10 c κs = search needs
+
+returns : tie.Need-returns
+unfolding hourAt
+returns c = rw (c .before .before .before .before .before .before .before .before .before .value-in .ensures, c .before .before .before .before .before .before .before .before .value-in2 .ensures, c .before .before .before .before .before .before .before .value-in3 .ensures, c .before .before .before .before .before .before .value-in4 .ensures, c .before .before .before .before .before .value-in5 .ensures, c .before .before .before .before .value-in6 .ensures, c .before .before .before .value-in7 .ensures, c .before .before .value-in8 .ensures, c .before .value-in9 .ensures, c .value-in10 .ensures)
+
+pub hour-spec : {M : Type 1} → statement M
+hour-spec =
+    tie.close
+    (tie.spec
+    value-in-requires
+    value-in-requires-2
+    value-in-requires-3
+    value-in-requires-4
+    value-in-requires-5
+    value-in-requires-6
+    value-in-requires-7
+    value-in-requires-8
+    value-in-requires-9
+    value-in-requires-10
+    returns)

@@ -1,0 +1,77 @@
+-- `records::write_hour` meets its contract: a record and its byte 10.
+use Prim.Native.Nat.{_+_, _<_}
+use native.Mathlib.Omega.{arith}
+use lib.ListN.{length}
+use Rattle.columns.specs.Written.{digitsOf}
+use Rattle.columns.specs.WrittenLaws.{digits-length}
+use Rattle.layout.specs.Layout.{lengthOf, dateWidth, offsetOf}
+use Rattle.layout.specs.PlaceLaws.{line-inside}
+use Rattle.records.specs.Records.{datedRecord}
+use Rattle.records.specs.RecordLaws.{dated-length}
+use Rattle.records.proofs.Lines.{line-put}
+use borrow.Author.Needs.{needs}
+use Rattle.records.proofs.write_hour.Statement.{statement}
+use Rattle.records.proofs.write_hour.Tie as tie
+
+-- the line lies in the buffer
+inside : (c : tie.Start) → offsetOf (c .args .s) (c .args .t) (c .args .k) + lengthOf (c .args .t) < length (c .args .buffer .now)
+inside c =
+    let f = c .pre .0 in
+    omega (arith, line-inside (c .args .s) (c .args .t) (c .args .k) (rw (c .pre .1) (f .rank)), f .room)
+
+offset-of-requires : tie.Need-offset-of-requires
+offset-of-requires c κs = let f = c .before .before .pre .0 in (f .held, omega (arith, f .rank, f .held .hours))
+
+line-length-requires : tie.Need-line-length-requires
+line-length-requires c κs = search needs
+
+-- where the line ends
+ends : (c : tie.After-line-length) →
+    let s = c .before .before .before .before in c .before .offset-of .result + c .line-length .result < length (s .args .buffer .now)
+ends c = rw (c .before .offset-of .ensures, c .line-length .ensures .0) (inside (c .before .before .before .before))
+
+add-end : tie.Need-add-end
+add-end c = omega (arith, ends c)
+
+sub-hour-record : tie.Need-sub-hour-record
+sub-hour-record c = search needs
+
+part-hour-record-start : tie.Need-part-hour-record-start
+part-hour-record-start c = search needs
+
+part-hour-record-end : tie.Need-part-hour-record-end
+part-hour-record-end c = omega (arith, ends c)
+
+hour-record-requires : tie.Need-hour-record-requires
+hour-record-requires c κs = search needs
+
+slice-write-buffer : tie.Need-slice-write-buffer
+slice-write-buffer c = omega (arith, ends (c .before .before .before .before), c .before .before .hour-record .kept .0)
+
+same-length : tie.Need-same-length
+same-length c = search needs
+
+returns : tie.Need-returns
+returns c =
+    let l = c .before .before .before .before in
+    let s = l .before .before .before .before in
+    let x = s .args in
+    let date = digitsOf dateWidth (x .date) in
+    rw (c .before .before .hour-record .ensures, l .line-length .ensures .0, l .before .offset-of .ensures)
+    (line-put (offsetOf (x .s) (x .t) (x .k)) (lengthOf (x .t)) (x .buffer .now) (datedRecord (x .name .now) (x .t) date (x .h))
+    (dated-length (x .name .now) (s .pre .0 .named) (x .t) date (x .h) (digits-length dateWidth (x .date))) (inside s))
+
+pub write-hour-spec : {M : Type 1} → statement M
+write-hour-spec =
+    tie.close
+    (tie.spec
+    offset-of-requires
+    line-length-requires
+    add-end
+    sub-hour-record
+    part-hour-record-start
+    part-hour-record-end
+    hour-record-requires
+    slice-write-buffer
+    same-length
+    returns)
