@@ -33,13 +33,13 @@ use Rattle.records.specs.Records.{headed, valued, facilityRecord, hourValues, t
 use Rattle.writer.specs.Written.{hourRecord}
 use Rattle.records.specs.RecordLaws.{facility-printable, totals-printable}
 use Rattle.writer.specs.LineLaws.{hour-printable}
-use Rattle.agreement.specs.RecordLaws.{Framed, framed-put, framed-headed, framed-type, framed-shape, framed-common, framed-valued, ValuesWithin, frontColumns, ordered, valued-before, valued-right}
+use Rattle.agreement.specs.RecordLaws.{behindStack, Framed, framed-put, framed-headed, framed-type, framed-shape, framed-common, framed-valued, ValuesWithin, frontColumns, ordered, valued-before, valued-right}
 
 -- behind date and hour stand the values
 dated-front : (t : RecordType) → 1 ≤ dateColumn t → frontColumns t ≡ dateColumn t - 1 + dateWidth
 dated-front t h = go (dateColumn t) h
   where
-    go : (c : ℕ) → 1 ≤ c → elim c [ zero ↦ 9 | suc d ↦ d + dateWidth ] ≡ c - 1 + dateWidth
+    go : (c : ℕ) → 1 ≤ c → elim c [ zero ↦ behindStack - 1 | suc d ↦ d + dateWidth ] ≡ c - 1 + dateWidth
     go zero k = absurd (omega arith)
     go (suc d) k = omega arith
 

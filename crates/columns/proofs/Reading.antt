@@ -12,7 +12,7 @@ use lib.ListN.{length, take, drop, getD, length-drop, drop-of-length-le}
 use lib.Seq.{drop-cons, take-all, length-take-le}
 use borrow.Author.Tests.{le-leb, lt-leb, eq-eqb, ne-eqb}
 use Rattle.columns.specs.Bytes.{isBlank, isDigit, isPrintable, all, same}
-use Rattle.columns.specs.Number.{digitsFrom, wholeOf, decimalsBehind, fixedOf}
+use Rattle.columns.specs.Number.{pointIn, digitsFrom, wholeOf, decimalsBehind, fixedOf}
 use Rattle.columns.specs.Columns.{columns}
 use Rattle.columns.specs.NumberLaws.{whole-bound}
 use Rattle.columns.specs.BytesLaws.{same-eq}
@@ -131,10 +131,6 @@ ten = lit< tt
 
 pub room-none : (n : ℕ) → n ≤ 18 → (0 + 1) * 10 ^ n ≤ 10 ^ 18
 room-none n h = omega (arith, pow-le-pow-right ten h)
-
--- the place of the point in a field with d decimals
-abbrev pub pointIn : List ℕ → ℕ → ℕ
-pointIn l d = length l - 1 - d
 
 -- format F.d, by what stands in front of the point
 module _ (l : List ℕ) (d : ℕ) (inside : d < length l) where

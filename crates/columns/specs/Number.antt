@@ -55,3 +55,7 @@ digitsHeld (suc d) width = width - 1
 abbrev pub fewestColumns : ℕ → ℕ
 fewestColumns zero = 1
 fewestColumns (suc d) = suc d + 2
+
+-- the place of the point in a field with d decimals
+abbrev pub pointIn : List ℕ → ℕ → ℕ
+pointIn field d = length field - 1 - d

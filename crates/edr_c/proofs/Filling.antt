@@ -6,6 +6,7 @@ use mathlib.Core.List.{List, [], _∷_}
 use native.Mathlib.Omega.{arith}
 use lib.ListN.{length, getD, drop, set}
 use borrow.Author.Tests.{lt-ltb, le-ltb, eq-eqb, ne-eqb}
+use Rattle.layout.specs.Layout.{stackWidth}
 use Rattle.totals.specs.declared.Quarter.{Quarter}
 use Rattle.reading.specs.declared.Refusal.{Refusal}
 use Rattle.checker.specs.Checked.{checked}
@@ -42,7 +43,7 @@ module _ (file buffer : List ℕ) where
   refused r e h = (rw (le-ltb (length buffer) 5 h, checkCode, e), rw (le-ltb (length buffer) 5 h, checkFilled, e) (set-two buffer (r .number) (r .line) h))
 
 -- six bytes one by one are the name
-pub six : (l : List ℕ) → length l ≡ 6 → getD l 0 0 ∷ getD l 1 0 ∷ getD l 2 0 ∷ getD l 3 0 ∷ getD l 4 0 ∷ getD l 5 0 ∷ [] ≡ l
+pub six : (l : List ℕ) → length l ≡ stackWidth → getD l 0 0 ∷ getD l 1 0 ∷ getD l 2 0 ∷ getD l 3 0 ∷ getD l 4 0 ∷ getD l 5 0 ∷ [] ≡ l
 six [] e = absurd (omega arith)
 six (a ∷ []) e = absurd (omega arith)
 six (a ∷ b ∷ []) e = absurd (omega arith)
@@ -53,12 +54,12 @@ six (a ∷ b ∷ c ∷ d ∷ x ∷ y ∷ []) e = refl
 six (a ∷ b ∷ c ∷ d ∷ x ∷ y ∷ z ∷ l) e = absurd (omega arith)
 
 module _ (year quarter : ℕ) (name sheet buffer : List ℕ) where
-  pub no-name : (length name ≡ 6 → ⊥) → (31 ≡ writeCode year quarter name sheet buffer) × (buffer ≡ writeFilled year quarter name sheet buffer)
+  pub no-name : (length name ≡ stackWidth → ⊥) → (31 ≡ writeCode year quarter name sheet buffer) × (buffer ≡ writeFilled year quarter name sheet buffer)
   unfolding writeCode writeFilled
-  no-name h = (rw (ne-eqb (length name) 6 h, writeCode), rw (ne-eqb (length name) 6 h, writeFilled))
+  no-name h = (rw (ne-eqb (length name) stackWidth h, writeCode), rw (ne-eqb (length name) stackWidth h, writeFilled))
 
   -- what the writer answers and leaves for the six bytes is what it does for the name
-  pub named : (letters : List ℕ) (code : ℕ) (exit : List ℕ) → letters ≡ name → length name ≡ 6 → code ≡ writtenCode (answered year quarter letters sheet (length buffer)) → exit ≡ buffered year quarter letters sheet buffer →
+  pub named : (letters : List ℕ) (code : ℕ) (exit : List ℕ) → letters ≡ name → length name ≡ stackWidth → code ≡ writtenCode (answered year quarter letters sheet (length buffer)) → exit ≡ buffered year quarter letters sheet buffer →
       (code ≡ writeCode year quarter name sheet buffer) × (exit ≡ writeFilled year quarter name sheet buffer)
   unfolding writeCode writeFilled
-  named letters code exit l e c x = (rw (eq-eqb (length name) 6 e, writeCode, ← l) c, rw (eq-eqb (length name) 6 e, writeFilled, ← l) x)
+  named letters code exit l e c x = (rw (eq-eqb (length name) stackWidth e, writeCode, ← l) c, rw (eq-eqb (length name) stackWidth e, writeFilled, ← l) x)

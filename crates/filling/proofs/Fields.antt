@@ -9,11 +9,8 @@ use lib.ListN.{length, take, drop, set, length-append, length-take, length-drop,
 use lib.Seq.{append-snoc, drop-length, paste, take-length, drop-at, drop-drop, length-take-le}
 use borrow.Rule.Slice.PartMut.{putMid}
 use Rattle.columns.specs.Columns.{put}
+use Rattle.columns.specs.Number.{pointIn}
 use Rattle.columns.specs.Written.{lastDigit, digitOrBlank, digitsOf, leading, wholeWritten, fixedWritten}
-
--- where the point of a field with d decimals stands
-abbrev pub pointIn : List ℕ → ℕ → ℕ
-pointIn l d = length l - 1 - d
 
 drop-set : (l : List ℕ) (i a : ℕ) → i < length l → drop i (set l i a) ≡ a ∷ drop (suc i) l
 drop-set [] i a h = absurd (not-suc-le-zero h)

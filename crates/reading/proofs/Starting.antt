@@ -8,6 +8,7 @@ use borrow.Author.Tests.{eq-eqb, ne-eqb}
 use Rattle.calendar.specs.Calendar.{IsQuarter}
 use Rattle.layout.specs.Layout.{lengthOf, quarterDigit, Within}
 use Rattle.layout.specs.declared.RecordType.the-variants.{Facility}
+use Rattle.stamp.specs.StampLaws.{is-quarter}
 use Rattle.lines.specs.Lines.{firstLine, lines, last}
 use Rattle.lines.specs.LineLaws.{lines-at, line-at, line-part}
 use Rattle.lines.specs.LineFaults.{periodOn, facilityFault, facilityLine}
@@ -70,6 +71,4 @@ module _ (l : List ℕ) (h : 0 < length l) where
         ∙ ap (λ (line : List ℕ). walkHours line period 2 0 [] (lines (drop (hourStart 0) l))) k)
 
     pub quarter-named : IsQuarter (period .quarter)
-    quarter-named =
-        let w = subst (λ (p : Period). Within quarterDigit (p .quarter)) (said .1) (facility-quarter (firstLine l) (said .0)) in
-        record { least = w .least; most = w .most }
+    quarter-named = is-quarter _ (subst (λ (p : Period). Within quarterDigit (p .quarter)) (said .1) (facility-quarter (firstLine l) (said .0)))

@@ -14,6 +14,7 @@ use Rattle.layout.specs.Layout.{lengthOf, valueCount, valuesOf, valueAt, noValu
 use Rattle.layout.specs.declared.RecordType.{RecordType}
 use Rattle.layout.specs.declared.RecordType.the-variants.{Facility, So2Concentration, NoxConcentration, Co2Concentration, VolumetricFlow, Operation, QuarterTotals, So2Mass, NoxRate, Co2Mass}
 use Rattle.layout.specs.declared.Shape.{Shape}
+use Rattle.stamp.specs.StampLaws.{is-quarter}
 use Rattle.formulas.specs.Hour.{HourWithin}
 use Rattle.lines.specs.Lines.{firstLine, lines, last}
 use Rattle.lines.specs.LineLaws.{lines-at, line-at}
@@ -39,9 +40,6 @@ pub record CleanFile (file : List ℕ) (r : Report) : Type 0 where
   pub quarter : Within quarterDigit (r .period .quarter)
   -- every value of every record lies in its range
   pub values : (t : RecordType) (k i : ℕ) → k < countOf (r .shape) t → i < valueCount t → Within (valueAt t i) (valueOn file t k i)
-
-is-quarter : (q : ℕ) → Within quarterDigit q → IsQuarter q
-is-quarter q w = record { least = w .least; most = w .most }
 
 pub clean-hour : (file : List ℕ) (r : Report) → CleanFile file r → (k : ℕ) → k < r .shape .hours → HourWithin (hourAt file k)
 unfolding hourAt

@@ -12,6 +12,7 @@ use Rattle.calendar.specs.CalendarLaws.{hours-in-quarter}
 use Rattle.layout.specs.Layout.{Within, Held, yearDigits, timeHours}
 use Rattle.layout.specs.LayoutLaws.{both, within-true}
 use Rattle.formulas.specs.Hour.{ReadingsWithin}
+use Rattle.stamp.specs.StampLaws.{is-quarter}
 use Rattle.sheet.specs.Sheet.{hourWords, hourAt, hourCount, shapeOf, hoursFrom, hoursOf}
 use Rattle.sheet.specs.SheetTests.{every, headingHolds, kindsHold, hourHolds, hoursRise, sheetHolds, readingsHold}
 use Rattle.sheet.specs.SheetLaws.{hours-count}
@@ -29,8 +30,7 @@ heading-true year quarter name e =
     let a = both _ _ e in
     let b = both _ _ (a .0) in
     let c = both _ _ (b .0) in
-    let q = within-true _ quarter (c .1) in
-    record { yearWithin = within-true _ year (c .0); isQuarter = record { least = q .least; most = q .most }; named = b .1; printable = a .1 }
+    record { yearWithin = within-true _ year (c .0); isQuarter = is-quarter quarter (within-true _ quarter (c .1)); named = b .1; printable = a .1 }
 
 -- a sheet that 31 does not refuse
 pub record Shaped (year quarter : ℕ) (name sheet : List ℕ) : Type 0 where

@@ -13,12 +13,16 @@ use Rattle.columns.specs.Written.{digitsOf}
 use Rattle.columns.specs.WrittenLaws.{read-digits-written, digits-length, digits-printable}
 use Rattle.columns.specs.declared.Field.{Field}
 use Rattle.columns.specs.declared.Field.the-variants.{Blank, Malformed, Number}
-use Rattle.layout.specs.Layout.{dateWidth}
+use Rattle.layout.specs.Layout.{dateWidth, quarterDigit, Within}
 use Rattle.calendar.specs.Calendar.{IsQuarter, hoursInQuarter, quarterHour, dateOfHour}
 use Rattle.calendar.specs.CalendarLaws.{TwoDigits, date-of-hour-two-digits, hour-at, at-hour-below}
 use Rattle.calendar.specs.declared.Date.{Date}
 use Rattle.calendar.specs.declared.QuarterHour.the-variants.{At, Outside}
 use Rattle.stamp.specs.Stamp.{numberDate, numberHour, fieldHour, stampHour, dateNumber, stampNumber, stampOf}
+
+-- a number in the range of line 100's quarter is a quarter
+pub is-quarter : (q : ℕ) → Within quarterDigit q → IsQuarter q
+is-quarter q w = record { least = w .least; most = w .most }
 
 pub stamp-digits : (year quarter hour : ℕ) → digitsOf dateWidth (stampNumber year quarter hour) ≡ stampOf year quarter hour
 unfolding stampOf

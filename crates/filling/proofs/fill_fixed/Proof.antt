@@ -7,7 +7,7 @@ use lib.ListN.{length, take, drop, length-take, length-set}
 use borrow.Rule.Slice.PartMut.{putMid}
 use Rattle.columns.specs.Written.{digitsOf, wholeWritten}
 use Rattle.columns.specs.WrittenLaws.{fixed-length}
-use Rattle.filling.proofs.Fields.{pointIn}
+use Rattle.columns.specs.Number.{pointIn}
 use Rattle.filling.proofs.Fields.{decimals-length, fixed-filled}
 use Rattle.filling.proofs.fill_fixed.Statement.{statement}
 use Rattle.filling.proofs.fill_fixed.Tie as tie

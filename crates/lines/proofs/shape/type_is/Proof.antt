@@ -5,6 +5,7 @@ use Prim.Native.Nat.{ℕ}
 use native.Mathlib.Omega.{arith}
 use lib.ListN.{take}
 use lib.Seq.{length-take-le}
+use Rattle.layout.specs.Layout.{typeWidth}
 use Rattle.columns.specs.Bytes.{same}
 use Rattle.lines.proofs.Shapes.{type-bytes, type-short}
 use borrow.Author.Needs.{needs}
@@ -22,7 +23,7 @@ type-digits-requires c κs = search needs
 slice-aggregate-same-bytes : tie.Need-slice-aggregate-same-bytes
 slice-aggregate-same-bytes c =
     let x = c .before .before .before .before .args in
-    sym (length-take-le 3 (x .rest .now) (omega arith))
+    sym (length-take-le typeWidth (x .rest .now) (omega arith))
 
 slice-aggregate-same-bytes-2 : tie.Need-slice-aggregate-same-bytes-2
 slice-aggregate-same-bytes-2 c = search needs
@@ -33,7 +34,9 @@ same-bytes-requires c κs = search needs
 returns-2 : tie.Need-returns-2
 returns-2 c =
     let x = c .before .before .before .before .before .before .args in
-    c .same-bytes .ensures ∙ ap (λ (ds : List ℕ). same (take 3 (x .rest .now)) ds) (c .before .before .before .type-digits .ensures) ∙ sym (type-bytes (x .t) (x .rest .now))
+    c .same-bytes .ensures
+    ∙ ap (λ (ds : List ℕ). same (take typeWidth (x .rest .now)) ds) (c .before .before .before .type-digits .ensures)
+    ∙ sym (type-bytes (x .t) (x .rest .now))
 
 pub type-is-spec : {M : Type 1} → statement M
 type-is-spec =
