@@ -1,23 +1,24 @@
 -- A sheet that the writer does not refuse gives a report that the check accepts, with the sheet's hours.
-use Prim.Native.Nat.{ℕ, zero, suc, _+_, _/_, _≤_, _<_}
+use Prim.Native.Nat.{ℕ, zero, suc, _≤_}
 use mathlib.Core.Path.{_≡_, refl, sym, ap, _∙_}
 use mathlib.Core.List.{List, [], _∷_, map}
 use native.Mathlib.Omega.{arith}
 use lib.ListN.{length, take, drop}
 use lib.Seq.{take-at}
+use Rattle.calendar.specs.Calendar.{mostHours}
+use Rattle.exact.specs.Logic.{ranked-all}
 use Rattle.layout.specs.Layout.{stackWidth, reportLength}
 use Rattle.formulas.specs.Hour.{Unrounded, asRecorded}
 use Rattle.formulas.specs.FormulaLaws.{written-behind}
 use Rattle.formulas.specs.declared.hour.Hour.{Hour}
 use Rattle.totals.specs.Totals.{quarterTotals}
 use Rattle.totals.specs.TotalLaws.{quarter-hours}
-use Rattle.totals.specs.declared.Quarter.{Quarter}
 use Rattle.checker.specs.Checked.{acceptance, numbersOf, checked}
 use Rattle.checker.specs.Promise.{SetsBehind, HonestlyRounded}
 use Rattle.checker.specs.PromiseLaws.{honest-checked}
 use Rattle.checker.specs.declared.Answer.the-variants.{Accepted}
-use Rattle.sheet.specs.Sheet.{hourWords, hourCount, shapeOf, hourAt, hoursFrom, hoursOf}
-use Rattle.sheet.specs.SheetLaws.{hours-count}
+use Rattle.sheet.specs.Sheet.{sheetHourCount, shapeOf, sheetHour, sheetHours}
+use Rattle.sheet.specs.SheetLaws.{sheet-hours-count}
 use Rattle.sheet.specs.declared.SheetHour.{SheetHour}
 use Rattle.writer.specs.Recorded.{recordedHour, recordedHours}
 use Rattle.writer.specs.Refusals.{refusalOf}
@@ -38,26 +39,20 @@ unfolding recordedHours
 sets-behind [] = tt
 sets-behind (h ∷ hs) = ((λ q. written-behind q (recordedHour h) refl), sets-behind hs)
 
-all-writable : (year quarter : ℕ) (sheet : List ℕ) (n k left : ℕ) → ((j : ℕ) → j < n → HourWritable year quarter (hourAt sheet j)) → k + left ≤ n →
-    AllWritable year quarter (hoursFrom sheet k left)
-unfolding hoursFrom
-all-writable year quarter sheet n k zero w h = tt
-all-writable year quarter sheet n k (suc left) w h = (w k (omega arith), all-writable year quarter sheet n (suc k) left w (omega arith))
-
 module _ (year quarter : ℕ) (name sheet : List ℕ) (named : length name ≡ stackWidth) where
   -- a sheet that can be written gives an honest report
   module _ (w : Writable year quarter name sheet) where
-    writable-hours : AllWritable year quarter (hoursOf sheet)
-    unfolding hoursOf
-    writable-hours = all-writable year quarter sheet (hourCount sheet) 0 (hourCount sheet) (w .hours) (omega arith)
+    writable-hours : AllWritable year quarter (sheetHours sheet)
+    unfolding sheetHours
+    writable-hours = ranked-all (HourWritable year quarter) (sheetHour sheet) (sheetHourCount sheet) 0 (sheetHourCount sheet) (w .hours) (omega arith)
 
-    few : length (hoursOf sheet) ≤ 2208
-    few = omega (arith, hours-count sheet, w .held .hours)
+    few : length (sheetHours sheet) ≤ mostHours
+    few = omega (arith, sheet-hours-count sheet, w .held .hours)
 
-    pub report-honest : HonestlyRounded (report year quarter name (hoursOf sheet)) (sets (hoursOf sheet))
+    pub report-honest : HonestlyRounded (report year quarter name (sheetHours sheet)) (sets (sheetHours sheet))
     report-honest =
         let g = w .shaped .heading in
-        let hs = hoursOf sheet in
+        let hs = sheetHours sheet in
         let h = hours-back year quarter name g named hs writable-hours in
         record {
           report = own year quarter name g named hs writable-hours (w .shaped .rises) few;
@@ -66,29 +61,29 @@ module _ (year quarter : ℕ) (name sheet : List ℕ) (named : length name ≡ s
           totals = totals-back year quarter name g named hs writable-hours few ∙ ap quarterTotals (sym h);
         }
 
-    pub report-accepted : checked (report year quarter name (hoursOf sheet)) ≡ Accepted (formed (hoursOf sheet))
+    pub report-accepted : checked (report year quarter name (sheetHours sheet)) ≡ Accepted (formed (sheetHours sheet))
     report-accepted =
-        honest-checked (report year quarter name (hoursOf sheet)) (sets (hoursOf sheet)) report-honest
-        ∙ ap (λ (x : List Hour). Accepted (quarterTotals x)) (hours-back year quarter name (w .shaped .heading) named (hoursOf sheet) writable-hours)
+        honest-checked (report year quarter name (sheetHours sheet)) (sets (sheetHours sheet)) report-honest
+        ∙ ap (λ (x : List Hour). Accepted (quarterTotals x)) (hours-back year quarter name (w .shaped .heading) named (sheetHours sheet) writable-hours)
 
-  pub formed-hours : formed (hoursOf sheet) .hours ≡ hourCount sheet
-  formed-hours = quarter-hours (recordedHours (hoursOf sheet)) ∙ recorded-length (hoursOf sheet) ∙ hours-count sheet
+  pub formed-hours : formed (sheetHours sheet) .hours ≡ sheetHourCount sheet
+  formed-hours = quarter-hours (recordedHours (sheetHours sheet)) ∙ recorded-length (sheetHours sheet) ∙ sheet-hours-count sheet
 
   -- Whatever the buffer: where the writer answers a length, the check accepts that many bytes of it, with the sheet's hours.
   pub every-written : (buffer : List ℕ) (n : ℕ) → answered year quarter name sheet (length buffer) ≡ Length n →
-      (numbersOf (checked (take n (buffered year quarter name sheet buffer))) ≡ acceptance (formed (hoursOf sheet))) ×
-      (formed (hoursOf sheet) .hours ≡ hourCount sheet)
+      (numbersOf (checked (take n (buffered year quarter name sheet buffer))) ≡ acceptance (formed (sheetHours sheet))) ×
+      (formed (sheetHours sheet) .hours ≡ sheetHourCount sheet)
   unfolding answered buffered
   every-written buffer n e = go (refusalOf year quarter name sheet (length buffer)) refl e
     where
       go : (f : ℕ) → refusalOf year quarter name sheet (length buffer) ≡ f →
           elim f [ zero ↦ Length (reportLength (shapeOf sheet)) | suc c ↦ Refused (suc c) ] ≡ Length n →
-          (numbersOf (checked (take n (buffered year quarter name sheet buffer))) ≡ acceptance (formed (hoursOf sheet))) ×
-          (formed (hoursOf sheet) .hours ≡ hourCount sheet)
+          (numbersOf (checked (take n (buffered year quarter name sheet buffer))) ≡ acceptance (formed (sheetHours sheet))) ×
+          (formed (sheetHours sheet) .hours ≡ sheetHourCount sheet)
       go zero z v =
           let l : reportLength (shapeOf sheet) ≡ n = cc in
-          let file = report year quarter name (hoursOf sheet) in
-          let k : length file ≡ n = report-length year quarter name (hoursOf sheet) named (shapeOf sheet) (hours-count sheet) ∙ l in
+          let file = report year quarter name (sheetHours sheet) in
+          let k : length file ≡ n = report-length year quarter name (sheetHours sheet) named (shapeOf sheet) (sheet-hours-count sheet) ∙ l in
           let t : take n (buffered year quarter name sheet buffer) ≡ file = rw (z, buffered) (take-at file (drop (reportLength (shapeOf sheet)) buffer) n k) in
           (ap numbersOf (ap checked t ∙ report-accepted (not-refused year quarter name sheet (length buffer) z .0)), formed-hours)
       go (suc f) z v = absurd (let y : _≡_ {A = ℕ} 0 1 = cc in omega arith)

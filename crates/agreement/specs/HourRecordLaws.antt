@@ -1,12 +1,10 @@
 -- The written records of a report, one by one, pass the line checks.
 use Prim.Native.Nat.{ℕ, zero, suc, _+_, _-_, _≤_, _<_}
-use mathlib.Core.Path.{_≡_, refl, sym, ap, _∙_}
-use mathlib.Core.List.{List, [], _∷_}
-use mathlib.Core.Bool.{Bool, true, false, not}
+use mathlib.Core.Path.{_≡_, ap, _∙_}
+use mathlib.Core.List.{List, []}
 use native.Mathlib.Omega.{arith}
 use lib.ListN.{length}
-use borrow.Author.Tests.{le-leb, not-true}
-use Rattle.columns.specs.Bytes.{isPrintable, isBlank, all, same}
+use borrow.Author.Tests.{le-leb}
 use Rattle.columns.specs.BytesLaws.{same-eq}
 use Rattle.columns.specs.Columns.{columns, put}
 use Rattle.columns.specs.ColumnsLaws.{put-length, columns-before, columns-back}
@@ -15,25 +13,27 @@ use Rattle.columns.specs.Written.{digitsOf}
 use Rattle.columns.specs.WrittenLaws.{digits-length, read-digits-written}
 use Rattle.calendar.specs.Calendar.{hoursInQuarter}
 use Rattle.calendar.specs.declared.QuarterHour.the-variants.{At}
-use Rattle.layout.specs.Layout.{lengthOf, stackWidth, dateColumn, dateWidth, yearDigits, quarterDigit, valuesOf, Within, within}
+use Rattle.layout.specs.Layout.{lengthOf, stackWidth, dateColumn, dateWidth, yearDigits, quarterDigit, valuesOf, Within}
 use Rattle.layout.specs.LayoutLaws.{date-inside, true-within}
-use Rattle.stamp.specs.Stamp.{stampHour, stampOf}
+use Rattle.stamp.specs.Stamp.{stampOf}
 use Rattle.stamp.specs.StampLaws.{stamp-length, stamp-names}
 use Rattle.totals.specs.declared.Quarter.{Quarter}
 use Rattle.layout.specs.declared.RecordType.{RecordType}
 use Rattle.layout.specs.declared.RecordType.the-variants.{Facility, So2Concentration, QuarterTotals}
-use Rattle.lines.specs.LineFaults.{_orElse_, unless, shapeFault, stackOf, commonFault, valuesFault, digitsIn, periodOn, facilityFault, facilityLine, risingFault, dateOn, hourOn, hourFault, hourNumber, hourLine, dueOf, dateFault, dueFault}
+use Rattle.lines.specs.LineFaults.{commonFault, valuesFault, digitsIn, facilityFault, facilityLine}
+use Rattle.lines.specs.LineFaults.{risingFault, hourOn, hourFault, hourNumber, hourLine, dueOf, dateFault, dueFault}
 use Rattle.lines.specs.declared.Period.{Period}
 use Rattle.lines.specs.declared.FacilityLine.the-variants.{Of}
 use Rattle.lines.specs.declared.HourLine.the-variants.{At as OfHour}
 use Rattle.sheet.specs.TestLaws.{Heading}
 use Rattle.sheet.specs.declared.SheetHour.{SheetHour}
 use Rattle.writer.specs.Recorded.{recordedHour}
-use Rattle.records.specs.Records.{headed, valued, facilityRecord, hourValues, totalValues, totalsRecord}
+use Rattle.records.specs.Records.{headed, facilityRecord, hourValues, totalValues, totalsRecord}
 use Rattle.writer.specs.Written.{hourRecord}
 use Rattle.records.specs.RecordLaws.{facility-printable, totals-printable}
 use Rattle.writer.specs.LineLaws.{hour-printable}
-use Rattle.agreement.specs.RecordLaws.{behindStack, Framed, framed-put, framed-headed, framed-type, framed-shape, framed-common, framed-valued, ValuesWithin, frontColumns, ordered, valued-before, valued-right}
+use Rattle.agreement.specs.RecordLaws.{behindStack, Framed, framed-put, framed-headed, framed-shape, framed-common, framed-valued}
+use Rattle.agreement.specs.RecordLaws.{ValuesWithin, frontColumns, ordered, valued-before, valued-right}
 
 -- behind date and hour stand the values
 dated-front : (t : RecordType) → 1 ≤ dateColumn t → frontColumns t ≡ dateColumn t - 1 + dateWidth

@@ -1,60 +1,45 @@
 -- The hours and totals of a written report are read back as they were recorded.
 use Prim.Native.Nat.{ℕ, zero, suc, _+_, _≤_, _<_}
 use mathlib.Core.Path.{_≡_, refl, sym, ap, ap₂, _∙_}
-use mathlib.Core.List.{List, [], _∷_, _++_, map}
-use mathlib.Core.Bool.{true}
+use mathlib.Core.List.{List, [], _∷_, _++_}
 use native.Mathlib.Omega.{arith}
-use native.Mathlib.Nat.{le-of-suc-le-suc, not-suc-le-zero}
 use lib.ListN.{length, getD, drop, drop-of-length-le}
 use lib.Seq.{drop-cons}
+use Rattle.calendar.specs.Calendar.{mostHours}
+use Rattle.exact.specs.Logic.{ranked, all-at, mapped-at}
 use Rattle.exact.specs.Sums.{totalOf}
 use Rattle.columns.specs.Number.{numberOf}
-use Rattle.layout.specs.Layout.{recordOf, dateColumn, stackWidth, valueCount, valuesOf, valueAt, noValue, order, earlier, countOf, bytesOf, shape}
+use Rattle.layout.specs.Layout.{recordOf, stackWidth, valueCount, valueAt, order, earlier, countOf, bytesOf, shape}
 use Rattle.layout.specs.declared.RecordType.{RecordType}
-use Rattle.layout.specs.declared.RecordType.the-variants.{So2Concentration, NoxConcentration, Co2Concentration, VolumetricFlow, Operation, QuarterTotals, So2Mass, NoxRate, Co2Mass}
+use Rattle.layout.specs.declared.RecordType.the-variants.{So2Concentration, NoxConcentration, Co2Concentration, VolumetricFlow, Operation}
+use Rattle.layout.specs.declared.RecordType.the-variants.{QuarterTotals, So2Mass, NoxRate, Co2Mass}
 use Rattle.layout.specs.declared.Run.the-variants.{Hourly}
 use Rattle.layout.specs.RunLaws.{hourly-dated}
 use Rattle.totals.specs.TotalLaws.{quarter-hours}
-use Rattle.totals.specs.declared.Quarter.{Quarter}
-use Rattle.lines.specs.Lines.{lines}
 use Rattle.lines.specs.LineFaults.{typeIs, fieldIn}
-use Rattle.reading.specs.Recorded.{linesWith, recordsOf as recordsRead, valueOn, hourCount, hourAt, hoursFrom, hoursOf, totalsIn}
+use Rattle.reading.specs.Recorded.{linesWith, recordsOf, valueOn, hourCount, hourAt, hoursOf, totalsIn}
 use Rattle.reading.specs.Places.{numbered}
-use Rattle.reading.specs.RunLaws.{LineRun, AllOf, Typed, joined, runsFrom, order-chosen, numbered-length, numbered-at}
+use Rattle.reading.specs.RunLaws.{LineRun, Typed, joined, runsFrom, order-chosen, numbered-length, numbered-at}
 use Rattle.sheet.specs.TestLaws.{Heading}
 use Rattle.sheet.specs.declared.SheetHour.{SheetHour}
 use Rattle.writer.specs.Recorded.{recordedHour, recordedHours}
 use Rattle.records.specs.Records.{headed, hourValues, totalValues, totalsRecord}
-use Rattle.writer.specs.Written.{hourRecord, recordsOf, report}
-use Rattle.writer.specs.ReportLaws.{EachRecord, hour-records, records-count}
-use Rattle.agreement.specs.RecordLaws.{framed-headed, ValuesWithin, value-back}
+use Rattle.writer.specs.Writable.{HourWritable}
+use Rattle.writer.specs.Written.{hourRecord, writtenRecords, report}
+use Rattle.writer.specs.ReportLaws.{hour-records, records-count}
+use Rattle.agreement.specs.RecordLaws.{framed-headed, value-back}
 use Rattle.agreement.specs.HourRecordLaws.{stamped, stamped-framed}
-use Rattle.agreement.specs.ReportLaws.{AllWritable, values-within, recorded-length, formed, totals-within, recordsIn, report-lines, records-typed}
+use Rattle.agreement.specs.ReportLaws.{AllWritable, hour-values-within, recorded-length, formed, totals-within, recordsIn, report-lines, records-typed}
 
-all-of : (t : RecordType) (rs : List (List ℕ)) → EachRecord (λ r. typeIs t r ≡ true) rs → AllOf t rs
-all-of t [] e = tt
-all-of t (r ∷ rs) e = (e .0, all-of t rs (e .1))
-
-mapped-at : {A : Type 0} (f : A → List ℕ) (xs : List A) (none : A) (k : ℕ) → k < length xs → getD (map f xs) k [] ≡ f (getD xs k none)
-mapped-at f [] none k h = absurd (not-suc-le-zero h)
-mapped-at f (x ∷ xs) none zero h = refl
-mapped-at f (x ∷ xs) none (suc k) h = mapped-at f xs none k (le-of-suc-le-suc h)
-
-writable-at : (year quarter : ℕ) (xs : List SheetHour) (none : SheetHour) (k : ℕ) → AllWritable year quarter xs → k < length xs →
-    AllWritable year quarter (getD xs k none ∷ [])
-writable-at year quarter [] none k a h = absurd (not-suc-le-zero h)
-writable-at year quarter (x ∷ xs) none zero a h = (a .0, tt)
-writable-at year quarter (x ∷ xs) none (suc k) a h = writable-at year quarter xs none k (a .1) (le-of-suc-le-suc h)
-
-abbrev none : SheetHour
-none = record { hour = 0; time = 0; readings = record { so2 = 0; nox = 0; co2 = 0; flow = 0; fc = 0 } }
+abbrev noHour : SheetHour
+noHour = record { hour = 0; time = 0; readings = record { so2 = 0; nox = 0; co2 = 0; flow = 0; fc = 0 } }
 
 module _ (year quarter : ℕ) (name : List ℕ) (g : Heading year quarter name) (named : length name ≡ stackWidth) (hs : List SheetHour) where
   abbrev file : List ℕ
   file = report year quarter name hs
 
   abbrev records : RecordType → List (List ℕ)
-  records t = recordsOf year quarter name hs t
+  records t = writtenRecords year quarter name hs t
 
   abbrev counted : (at : ℕ) (t : RecordType) → length (records t) ≡ countOf (shape (length hs)) t
   counted at t = records-count year quarter name hs named (shape (length hs)) refl t
@@ -68,11 +53,11 @@ module _ (year quarter : ℕ) (name : List ℕ) (g : Heading year quarter name) 
 
   runs-typed : (ts : List RecordType) (at : ℕ) → Typed (runs ts at)
   runs-typed [] at = tt
-  runs-typed (t ∷ ts) at = (all-of t (records t) (records-typed year quarter name g named hs t), runs-typed ts (at + bytesOf (shape (length hs)) t))
+  runs-typed (t ∷ ts) at = (records-typed year quarter name g named hs t, runs-typed ts (at + bytesOf (shape (length hs)) t))
 
   -- the records of a type in the report are those that were written
-  records-back : (t : RecordType) → recordsRead file t ≡ numbered (1 + totalOf (countOf (shape (length hs))) (earlier t)) (records t)
-  unfolding recordsRead
+  records-back : (t : RecordType) → recordsOf file t ≡ numbered (1 + totalOf (countOf (shape (length hs))) (earlier t)) (records t)
+  unfolding recordsOf
   records-back t =
       ap (linesWith (typeIs t) 1) (report-lines year quarter name g named hs ∙ runs-joined order 0)
       ∙ order-chosen (λ at t. records t) (countOf (shape (length hs))) (bytesOf (shape (length hs))) counted t 1 0 (runs-typed order 0)
@@ -87,21 +72,21 @@ module _ (year quarter : ℕ) (name : List ℕ) (g : Heading year quarter name) 
   -- of an hour
   hour-value : (t : RecordType) → recordOf t .run ≡ Hourly → (k i : ℕ) → k < length hs → k < countOf (shape (length hs)) t → i < valueCount t →
       AllWritable year quarter hs →
-      valueOn file t k i ≡ getD (hourValues t (recordedHour (getD hs k none))) i 0
+      valueOn file t k i ≡ getD (hourValues t (recordedHour (getD hs k noHour))) i 0
   unfolding numberOf hourRecord stamped
   hour-value t e k i h b c a =
-      let x = getD hs k none in
+      let x = getD hs k noHour in
       let d = hourly-dated t e in
-      let w = writable-at year quarter hs none k a h .0 .within in
+      let w = all-at (HourWritable year quarter) hs noHour k a h .within in
       value-from t k i b
       ∙ ap (λ (r : List ℕ). numberOf (fieldIn (valueAt t i) r))
-      (ap (λ (rs : List (List ℕ)). getD rs k []) (hour-records year quarter name hs t e) ∙ mapped-at (hourRecord year quarter name t) hs none k h)
+      (ap (λ (rs : List (List ℕ)). getD rs k []) (hour-records year quarter name hs t e) ∙ mapped-at (hourRecord year quarter name t) hs noHour [] k h)
       ∙ ap numberOf (value-back t (hourValues t (recordedHour x)) (stamped year quarter name g named t d x)
-      (stamped-framed year quarter name g named t d x .long) (values-within t x d w) i c)
+      (stamped-framed year quarter name g named t d x .long) (hour-values-within t x d w) i c)
 
   module _ (a : AllWritable year quarter hs) where
     -- an hour of the report is that of the sheet
-    hour-back : (k : ℕ) → k < length hs → hourAt file k ≡ recordedHour (getD hs k none)
+    hour-back : (k : ℕ) → k < length hs → hourAt file k ≡ recordedHour (getD hs k noHour)
     unfolding hourAt
     hour-back k h =
         rw (
@@ -120,22 +105,22 @@ module _ (year quarter : ℕ) (name : List ℕ) (g : Heading year quarter name) 
     count-back : hourCount file ≡ length hs
     count-back = rw (records-back So2Concentration) (numbered-length (records So2Concentration) _ ∙ counted 0 So2Concentration)
 
-    hours-from : (k left : ℕ) → k + left ≡ length hs → hoursFrom file k left ≡ recordedHours (drop k hs)
-    unfolding hoursFrom recordedHours
+    hours-from : (k left : ℕ) → k + left ≡ length hs → ranked (hourAt file) k left ≡ recordedHours (drop k hs)
+    unfolding ranked recordedHours
     hours-from k zero e =
         let b : length hs ≤ k = omega arith in
         rw (drop-of-length-le hs b)
     hours-from k (suc left) e =
         let b : k < length hs = omega arith in
-        rw (drop-cons hs k none b) (ap₂ _∷_ (hour-back k b) (hours-from (suc k) left (omega arith)))
+        rw (drop-cons hs k noHour b) (ap₂ _∷_ (hour-back k b) (hours-from (suc k) left (omega arith)))
 
     pub hours-back : hoursOf file ≡ recordedHours hs
     unfolding hoursOf
     hours-back = rw count-back (hours-from 0 (length hs) (omega arith))
 
-    module _ (few : length hs ≤ 2208) where
+    module _ (few : length hs ≤ mostHours) where
       total-back : (i : ℕ) → i < valueCount QuarterTotals → valueOn file QuarterTotals 0 i ≡ getD (totalValues (formed hs)) i 0
-      unfolding numberOf recordsOf totalsRecord
+      unfolding numberOf writtenRecords totalsRecord
       total-back i b =
           value-from QuarterTotals 0 i (omega arith)
           ∙ ap numberOf (value-back QuarterTotals (totalValues (formed hs)) (headed QuarterTotals name) (framed-headed QuarterTotals name named .long)

@@ -8,7 +8,7 @@ use native.Mathlib.Nat.{le-of-suc-le-suc, not-suc-le-zero, lt-of-le-of-lt}
 use lib.Dec.{leb, ltb}
 use lib.ListN.{length, getD, take, replicate, length-replicate}
 use borrow.Author.Tests.{eq-eqb, leb-true, ltb-true}
-use Rattle.columns.specs.Bytes.{isPrintable, all, same}
+use Rattle.columns.specs.Bytes.{isPrintable, all}
 use Rattle.columns.specs.BytesLaws.{same-eq}
 use Rattle.columns.specs.Columns.{columns, put}
 use Rattle.columns.specs.ColumnsLaws.{put-length, columns-before, columns-back}
@@ -16,11 +16,13 @@ use Rattle.columns.specs.Number.{fieldOf, digitsHeld, fewestColumns}
 use Rattle.columns.specs.Written.{written}
 use Rattle.columns.specs.WrittenLaws.{digits-length, written-length, read-written}
 use Rattle.columns.specs.declared.Field.the-variants.{Number}
-use Rattle.layout.specs.Layout.{codeOf, lengthOf, typeStart, typeWidth, typeDigits, stackStart, stackWidth, dateColumn, dateWidth, valuesOf, noValue, Within, within}
-use Rattle.layout.specs.LayoutLaws.{both, each, length-least, true-within}
+use Rattle.exact.specs.Logic.{both}
+use Rattle.layout.specs.Layout.{codeOf, lengthOf, typeStart, typeWidth, typeDigits, stackStart, stackWidth, dateColumn, dateWidth, valuesOf, noValue}
+use Rattle.layout.specs.Layout.{Within}
+use Rattle.layout.specs.LayoutLaws.{each, length-least, true-within}
 use Rattle.layout.specs.declared.Value.{Value}
 use Rattle.layout.specs.declared.RecordType.{RecordType}
-use Rattle.lines.specs.LineFaults.{_orElse_, unless, typeIs, shapeFault, stackOf, stackFault, commonFault, fieldFault, fieldIn, valuesFault}
+use Rattle.lines.specs.LineFaults.{typeIs, shapeFault, stackOf, stackFault, commonFault, fieldFault, fieldIn, valuesFault}
 use Rattle.records.specs.Records.{headed, valued}
 
 -- a line with a type's length and digits and a stack name

@@ -1,24 +1,25 @@
 -- The lines of a written report are its records, in the order of their types, and pass the line checks.
-use Prim.Native.Nat.{ℕ, zero, suc, _+_, _≤_, _<_}
-use mathlib.Core.Path.{_≡_, refl, sym, ap, ap₂, _∙_}
+use Prim.Native.Nat.{ℕ, suc, _+_, _≤_}
+use mathlib.Core.Path.{_≡_, refl, ap, ap₂, _∙_}
 use mathlib.Core.List.{List, [], _∷_, _++_, map, append-assoc, append-nil}
-use mathlib.Core.Bool.{Bool, true, false, not}
+use mathlib.Core.Bool.{true, false, not}
 use mathlib.Core.Logic.{_⊎_, inl, inr, ⊎-elim}
 use native.Mathlib.Omega.{arith}
 use native.Mathlib.Numerals.{add-one}
 use lib.Dec.{eqb}
 use lib.ListN.{length, length-map}
-use borrow.Author.Tests.{ne-eqb, eq-eqb, not-true}
+use borrow.Author.Tests.{ne-eqb, not-true}
 use Rattle.columns.specs.Bytes.{isPrintable, all}
 use Rattle.columns.specs.BytesLaws.{all-head, all-tail}
-use Rattle.calendar.specs.Calendar.{hoursInQuarter}
+use Rattle.calendar.specs.Calendar.{mostHours, hoursInQuarter}
 use Rattle.layout.specs.Layout.{recordOf, codeOf, dateColumn, stackWidth, valuesOf, order, shape}
-use Rattle.layout.specs.LayoutLaws.{both}
-use Rattle.layout.specs.PlaceLaws.{runsOf as textsOf}
+use Rattle.exact.specs.Logic.{both, All}
+use Rattle.layout.specs.PlaceLaws.{joinedRuns}
 use Rattle.layout.specs.RunLaws.{once-type, hourly-dated}
 use Rattle.layout.specs.TypeLaws.{absent, only-once}
 use Rattle.layout.specs.declared.RecordType.{RecordType}
-use Rattle.layout.specs.declared.RecordType.the-variants.{Facility, So2Concentration, NoxConcentration, Co2Concentration, VolumetricFlow, Operation, QuarterTotals, So2Mass, NoxRate, Co2Mass}
+use Rattle.layout.specs.declared.RecordType.the-variants.{Facility, So2Concentration, NoxConcentration, Co2Concentration, VolumetricFlow, Operation}
+use Rattle.layout.specs.declared.RecordType.the-variants.{QuarterTotals, So2Mass, NoxRate, Co2Mass}
 use Rattle.layout.specs.declared.Run.{Run}
 use Rattle.layout.specs.declared.Run.the-variants.{Once, Hourly}
 use Rattle.formulas.specs.Hour.{HourWithin, HoursWithin}
@@ -27,22 +28,23 @@ use Rattle.totals.specs.Totals.{quarterTotals}
 use Rattle.totals.specs.FitLaws.{totals-fit}
 use Rattle.totals.specs.declared.Quarter.{Quarter}
 use Rattle.lines.specs.Lines.{onto, lines, last}
-use Rattle.lines.specs.LineFaults.{typeIs, facilityLine, dateOn, hourLine, Due, dueOf, dueFault}
+use Rattle.lines.specs.LineFaults.{typeIs, dateOn, Due, dueOf, dueFault}
 use Rattle.lines.specs.FaultLaws.{type-same}
 use Rattle.reading.specs.Reading.{laterTypes, datesOf, runOf, runsOf, reportOf, walkDue, walkLater, walkHours, walk, readOf}
-use Rattle.reading.specs.CleanLaws.{Matches}
+use Rattle.reading.specs.CleanLaws.{Matches, ended-walked}
 use Rattle.reading.specs.declared.Report.{Report}
 use Rattle.reading.specs.declared.Reading.the-variants.{Clean}
 use Rattle.sheet.specs.SheetTests.{hoursRise}
-use Rattle.sheet.specs.TestLaws.{Heading, rise-first, rise-count}
+use Rattle.sheet.specs.TestLaws.{Heading, rise-first}
 use Rattle.sheet.specs.declared.SheetHour.{SheetHour}
 use Rattle.writer.specs.Recorded.{recordedHour, recordedHours}
 use Rattle.writer.specs.Writable.{HourWritable}
-use Rattle.records.specs.Records.{ended, facilityRecord, hourValues, totalValues, totalsRecord}
-use Rattle.writer.specs.Written.{hourRecord, onceRecord, runRecords, recordsOf, lined, report}
-use Rattle.writer.specs.ReportLaws.{EachRecord, records-each, records-printable}
+use Rattle.records.specs.Records.{ended, facilityRecord, hourValues, totalValues}
+use Rattle.writer.specs.Written.{hourRecord, onceRecord, runRecords, writtenRecords, lined, report}
+use Rattle.writer.specs.ReportLaws.{records-each, records-printable}
 use Rattle.agreement.specs.RecordLaws.{framed-type, ValuesWithin}
-use Rattle.agreement.specs.HourRecordLaws.{facility, period, facility-framed, facility-named, hour-framed, hour-date, hour-due, hour-named, totals-framed, totals-due}
+use Rattle.agreement.specs.HourRecordLaws.{facility, period, facility-framed, facility-named, hour-framed, hour-date, hour-due, hour-named}
+use Rattle.agreement.specs.HourRecordLaws.{totals-framed, totals-due}
 
 -- a line of printable bytes and its byte 10 are the first line of what follows
 printable-not-end : (b : ℕ) → isPrintable b ≡ true → eqb b 10 ≡ false
@@ -57,7 +59,7 @@ lines-ended [] rest p = refl
 lines-ended (b ∷ line) rest p =
     rw (printable-not-end b (all-head isPrintable b line p), lines) (ap (onto b) (lines-ended line rest (all-tail isPrintable b line p)))
 
-lines-lined : (rs : List (List ℕ)) (rest : List ℕ) → EachRecord (λ r. all isPrintable r ≡ true) rs → lines (lined rs ++ rest) ≡ rs ++ lines rest
+lines-lined : (rs : List (List ℕ)) (rest : List ℕ) → All (λ r. all isPrintable r ≡ true) rs → lines (lined rs ++ rest) ≡ rs ++ lines rest
 unfolding lined
 lines-lined [] rest p = refl
 lines-lined (r ∷ rs) rest p =
@@ -85,10 +87,10 @@ unfolding lined Closed last
 closed-lined [] = inl refl
 closed-lined (r ∷ rs) = closed-append (ended r) (lined rs) (inr (last-behind r 10 [])) (closed-lined rs)
 
-closed-texts : (text : RecordType → List (List ℕ)) (ts : List RecordType) → Closed (textsOf (λ t. lined (text t)) ts)
+closed-texts : (text : RecordType → List (List ℕ)) (ts : List RecordType) → Closed (joinedRuns (λ t. lined (text t)) ts)
 unfolding Closed
 closed-texts text [] = inl refl
-closed-texts text (t ∷ ts) = closed-append (lined (text t)) (textsOf (λ t. lined (text t)) ts) (closed-lined (text t)) (closed-texts text ts)
+closed-texts text (t ∷ ts) = closed-append (lined (text t)) (joinedRuns (λ t. lined (text t)) ts) (closed-lined (text t)) (closed-texts text ts)
 
 -- lines that are due and come are clean
 matches-clean : (own : Report) (first : List ℕ) (line : ℕ) (due : List Due) (ls : List (List ℕ)) → Matches first due ls →
@@ -106,22 +108,21 @@ append-matches first (d ∷ ds) es [] ms p q = absurd p
 append-matches first (d ∷ ds) es (l ∷ ls) ms p q = (p .0, append-matches first ds es ls ms (p .1) q)
 
 abbrev pub AllWritable : ℕ → ℕ → List SheetHour → Type 0
-AllWritable year quarter [] = Unit {0}
-AllWritable year quarter (h ∷ hs) = HourWritable year quarter h × AllWritable year quarter hs
+AllWritable year quarter hs = All (HourWritable year quarter) hs
 
 -- the values of an hour in the record of a type lie in their ranges
-pub values-within : (t : RecordType) (h : SheetHour) → 1 ≤ dateColumn t → HourWithin (recordedHour h) →
+pub hour-values-within : (t : RecordType) (h : SheetHour) → 1 ≤ dateColumn t → HourWithin (recordedHour h) →
     ValuesWithin (valuesOf t) (hourValues t (recordedHour h))
-values-within Facility h d w = tt
-values-within So2Concentration h d w = (w .readings .so2, tt)
-values-within NoxConcentration h d w = (w .readings .nox, tt)
-values-within Co2Concentration h d w = (w .readings .co2, tt)
-values-within VolumetricFlow h d w = (w .readings .flow, tt)
-values-within Operation h d w = (w .time, (w .figures .heat, tt))
-values-within QuarterTotals h d w = absurd (omega arith)
-values-within So2Mass h d w = (w .figures .so2, tt)
-values-within NoxRate h d w = (w .readings .fc, (w .figures .nox, tt))
-values-within Co2Mass h d w = (w .figures .co2, tt)
+hour-values-within Facility h d w = tt
+hour-values-within So2Concentration h d w = (w .readings .so2, tt)
+hour-values-within NoxConcentration h d w = (w .readings .nox, tt)
+hour-values-within Co2Concentration h d w = (w .readings .co2, tt)
+hour-values-within VolumetricFlow h d w = (w .readings .flow, tt)
+hour-values-within Operation h d w = (w .time, (w .figures .heat, tt))
+hour-values-within QuarterTotals h d w = absurd (omega arith)
+hour-values-within So2Mass h d w = (w .figures .so2, tt)
+hour-values-within NoxRate h d w = (w .readings .fc, (w .figures .nox, tt))
+hour-values-within Co2Mass h d w = (w .figures .co2, tt)
 
 recorded-within : (year quarter : ℕ) (hs : List SheetHour) → AllWritable year quarter hs → HoursWithin (recordedHours hs)
 unfolding recordedHours
@@ -137,7 +138,7 @@ recorded-length (h ∷ hs) = ap suc (recorded-length hs)
 abbrev pub formed : List SheetHour → Quarter
 formed hs = quarterTotals (recordedHours hs)
 
-pub totals-within : (year quarter : ℕ) (hs : List SheetHour) → AllWritable year quarter hs → length hs ≤ 2208 →
+pub totals-within : (year quarter : ℕ) (hs : List SheetHour) → AllWritable year quarter hs → length hs ≤ mostHours →
     ValuesWithin (valuesOf QuarterTotals) (totalValues (formed hs))
 totals-within year quarter hs a b =
     let f = totals-fit (recordedHours hs) (recorded-within year quarter hs a) (omega (arith, recorded-length hs)) in
@@ -145,18 +146,18 @@ totals-within year quarter hs a b =
 
 module _ (year quarter : ℕ) (name : List ℕ) (g : Heading year quarter name) (named : length name ≡ stackWidth) (hs : List SheetHour) where
   abbrev records : RecordType → List (List ℕ)
-  records t = recordsOf year quarter name hs t
+  records t = writtenRecords year quarter name hs t
 
   -- the records of these types, one type after the other
   abbrev pub recordsIn : List RecordType → List (List ℕ)
   recordsIn [] = []
   recordsIn (t ∷ ts) = records t ++ recordsIn ts
 
-  lines-in : (ts : List RecordType) → lines (textsOf (λ t. lined (records t)) ts) ≡ recordsIn ts
+  lines-in : (ts : List RecordType) → lines (joinedRuns (λ t. lined (records t)) ts) ≡ recordsIn ts
   unfolding lines
   lines-in [] = refl
   lines-in (t ∷ ts) =
-      lines-lined (records t) (textsOf (λ t. lined (records t)) ts) (records-printable year quarter name hs (g .printable) t)
+      lines-lined (records t) (joinedRuns (λ t. lined (records t)) ts) (records-printable year quarter name hs (g .printable) t)
       ∙ ap (λ (l : List (List ℕ)). records t ++ l) (lines-in ts)
 
   pub report-lines : lines (report year quarter name hs) ≡ recordsIn order
@@ -164,14 +165,14 @@ module _ (year quarter : ℕ) (name : List ℕ) (g : Heading year quarter name) 
   report-lines = lines-in order
 
   report-last : last (report year quarter name hs) ≡ 10
-  unfolding Closed report recordsOf lined
+  unfolding Closed report writtenRecords lined
   report-last = ⊎-elim (λ e. absurd (some (facilityRecord year quarter name) _ e)) (λ e. e) (closed-texts records order)
     where
       some : (line rest : List ℕ) → (ended line ++ []) ++ rest ≡ [] → ⊥
       some [] rest e = let z : _≡_ {A = ℕ} 0 1 = cc in omega arith
       some (b ∷ line) rest e = let z : _≡_ {A = ℕ} 0 1 = cc in omega arith
 
-  pub records-typed : (t : RecordType) → EachRecord (λ r. typeIs t r ≡ true) (records t)
+  pub records-typed : (t : RecordType) → All (λ r. typeIs t r ≡ true) (records t)
   records-typed t =
       records-each year quarter name hs (λ t r. typeIs t r ≡ true)
       (framed-type Facility name _ (facility-framed year quarter name g named))
@@ -191,11 +192,11 @@ module _ (year quarter : ℕ) (name : List ℕ) (g : Heading year quarter name) 
       Matches first (map (dueOf t) (stamps xs)) (map (hourRecord year quarter name t) xs)
   unfolding first
   hours-due t d [] a = tt
-  hours-due t d (x ∷ xs) a = (hour-due year quarter name g named t d x (values-within t x d (a .0 .within)), hours-due t d xs (a .1))
+  hours-due t d (x ∷ xs) a = (hour-due year quarter name g named t d x (hour-values-within t x d (a .0 .within)), hours-due t d xs (a .1))
 
-  module _ (a : AllWritable year quarter hs) (few : length hs ≤ 2208) where
+  module _ (a : AllWritable year quarter hs) (few : length hs ≤ mostHours) where
     type-due : (t : RecordType) → eqb (codeOf t) (codeOf Facility) ≡ false → Matches first (runOf t (stamps hs)) (records t)
-    unfolding runOf recordsOf first
+    unfolding runOf writtenRecords first
     type-due t n = go (recordOf t .run) refl
       where
         one : (t ≡ Facility) ⊎ (t ≡ QuarterTotals) → dueFault first (dueOf t []) (onceRecord year quarter name hs t) ≡ 0
@@ -226,7 +227,7 @@ module _ (year quarter : ℕ) (name : List ℕ) (g : Heading year quarter name) 
       let b = both (not (eqb (codeOf t) (codeOf So2Concentration))) (absent (codeOf So2Concentration) ts) n in
       go (records t) (records-typed t) (not-true _ (b .0)) (later-other ts (b .1))
     where
-      go : (rs : List (List ℕ)) → EachRecord (λ r. typeIs t r ≡ true) rs → eqb (codeOf t) (codeOf So2Concentration) ≡ false → Other (recordsIn ts) →
+      go : (rs : List (List ℕ)) → All (λ r. typeIs t r ≡ true) rs → eqb (codeOf t) (codeOf So2Concentration) ≡ false → Other (recordsIn ts) →
           Other (rs ++ recordsIn ts)
       go [] e f o = o
       go (r ∷ rs) e f o = type-same t So2Concentration r (e .0) ∙ f
@@ -249,7 +250,7 @@ module _ (year quarter : ℕ) (name : List ℕ) (g : Heading year quarter name) 
   hours-walked (x ∷ xs) line from dates later a r o =
       let b = rise-first (hoursInQuarter year quarter) from x xs r in
       let l = hourRecord year quarter name So2Concentration x in
-      let w = values-within So2Concentration x (omega arith) (a .0 .within) in
+      let w = hour-values-within So2Concentration x (omega arith) (a .0 .within) in
       let e : line + 1 + length xs ≡ line + suc (length xs) = omega arith in
       let d : dates ++ (dateOn l ∷ []) ++ stamps xs ≡ dates ++ (stampOf year quarter (x .hour) ∷ stamps xs) =
       append-assoc dates (dateOn l ∷ []) (stamps xs)
@@ -263,22 +264,18 @@ module _ (year quarter : ℕ) (name : List ℕ) (g : Heading year quarter name) 
       (hours-walked xs (line + 1) (suc (x .hour)) (dates ++ (dateOn l ∷ [])) later (a .1) (b .2) o
       ∙ ap₂ (λ (n : ℕ) (s : List (List ℕ)). walkLater first (period year quarter name g named) n s later) e d)
 
-  module _ (a : AllWritable year quarter hs) (r : hoursRise (hoursInQuarter year quarter) 0 hs ≡ true) (few : length hs ≤ 2208) where
+  module _ (a : AllWritable year quarter hs) (r : hoursRise (hoursInQuarter year quarter) 0 hs ≡ true) (few : length hs ≤ mostHours) where
     abbrev pub own : Report
     own = record { period = period year quarter name g named; shape = shape (length hs) }
-
-    read-ended : (file : List ℕ) → last file ≡ 10 → readOf file ≡ walk (lines file)
-    unfolding readOf
-    read-ended file e = rw (eq-eqb (last file) 10 e, readOf)
 
     walk-first : (ls : List (List ℕ)) → walk (first ∷ ls) ≡ walkHours first (period year quarter name g named) 2 0 [] ls
     unfolding walk first
     walk-first ls = rw (facility-named year quarter name g named, walk)
 
     pub report-clean : readOf (report year quarter name hs) ≡ Clean own
-    unfolding walkLater recordsOf first
+    unfolding walkLater writtenRecords first
     report-clean =
-        read-ended (report year quarter name hs) report-last
+        ended-walked (report year quarter name hs) report-last
         ∙ ap walk report-lines
         ∙ walk-first (records So2Concentration ++ recordsIn laterTypes)
         ∙ hours-walked hs 2 0 [] (recordsIn laterTypes) a r (later-other laterTypes (only-once So2Concentration))

@@ -5,7 +5,8 @@ use mathlib.Core.List.{[], _∷_}
 use mathlib.Core.Path.{_≡_, refl}
 use Rattle.calendar.specs.declared.Date.{Date}
 use Rattle.calendar.specs.declared.QuarterHour.the-variants.{At, Outside}
-use Rattle.calendar.specs.Calendar.{leapYear, daysInMonth, daysInQuarter, hoursInQuarter, inQuarter, daysBefore, hourOfQuarter, monthOfDay, dateOfHour, quarterHour}
+use Rattle.calendar.specs.Calendar.{leapYear, daysInMonth, daysInQuarter, hoursInQuarter, inQuarter}
+use Rattle.calendar.specs.Calendar.{daysBefore, hourOfQuarter, monthOfDay, dateOfHour, quarterHour}
 
 years : (leapYear 1900 ∷ leapYear 1996 ∷ leapYear 1999 ∷ leapYear 2000 ∷ leapYear 2100 ∷ []) ≡ (false ∷ true ∷ false ∷ true ∷ false ∷ [])
 unfolding leapYear

@@ -31,6 +31,10 @@ daysInQuarter year quarter =
 unfoldable pub hoursInQuarter : ℕ → ℕ → ℕ
 hoursInQuarter year quarter = 24 * daysInQuarter year quarter
 
+-- no quarter has more (CalendarLaws.antt)
+abbrev pub mostHours : ℕ
+mostHours = 2208
+
 -- a real date and hour of the quarter
 unfoldable pub inQuarter : ℕ → ℕ → Date → Bool
 inQuarter year quarter date =
@@ -62,9 +66,3 @@ dateOfHour year quarter hour =
 -- where a date lies in the quarter
 unfoldable pub quarterHour : ℕ → ℕ → Date → QuarterHour
 quarterHour year quarter date = cond (inQuarter year quarter date) (At (hourOfQuarter year quarter date)) Outside
-
--- of two dates of a year, whether the first is the earlier one
-unfoldable pub earlier : Date → Date → Bool
-earlier a b =
-    ltb (a .month) (b .month)
-    || (eqb (a .month) (b .month) && (ltb (a .day) (b .day) || (eqb (a .day) (b .day) && ltb (a .hour) (b .hour))))

@@ -9,7 +9,8 @@ use borrow.Author.Tests.{le-leb, leb-true}
 use lib.Dec.{leb}
 use Rattle.calendar.specs.declared.Date.{Date}
 use Rattle.calendar.specs.declared.QuarterHour.the-variants.{At, Outside}
-use Rattle.calendar.specs.Calendar.{IsQuarter, leapYear, daysInMonth, firstMonth, daysInQuarter, hoursInQuarter, inQuarter, daysBefore, hourOfQuarter, monthOfDay, dateOfHour, quarterHour}
+use Rattle.calendar.specs.Calendar.{mostHours, IsQuarter, leapYear, daysInMonth, firstMonth, daysInQuarter, hoursInQuarter}
+use Rattle.calendar.specs.Calendar.{inQuarter, daysBefore, hourOfQuarter, monthOfDay, dateOfHour, quarterHour}
 use Rattle.calendar.specs.MonthLaws.{Between, cond-between, days-in-month, InMonths, month-ends, Holds, month-starts, month-holds, month-of-day}
 
 -- inQuarter as facts: lies-in and in-quarter go from the test to them and back
@@ -70,10 +71,10 @@ by-quarter P one two three four quarter h = go (ℕ-discrete quarter 1) (ℕ-dis
     go (no n) (no m) (yes e) = subst⁻¹ P e three
     go (no n) (no m) (no o) = subst⁻¹ P (omega arith) four
 
-pub hours-in-quarter : (year quarter : ℕ) → IsQuarter quarter → Between 2160 (hoursInQuarter year quarter) 2208
+pub hours-in-quarter : (year quarter : ℕ) → IsQuarter quarter → Between 2160 (hoursInQuarter year quarter) mostHours
 unfolding hoursInQuarter daysInQuarter daysInMonth
 hours-in-quarter year =
-    by-quarter (λ quarter. Between 2160 (hoursInQuarter year quarter) 2208)
+    by-quarter (λ quarter. Between 2160 (hoursInQuarter year quarter) mostHours)
     (omega (arith, cond-between 28 29 29 28 (leapYear year) (omega arith) (omega arith)))
     (omega arith) (omega arith) (omega arith)
 
@@ -165,7 +166,7 @@ module _ (year quarter : ℕ) (date : Date) where
       go true h e = own (h refl) (cc)
       go false h e = let z : _≡_ {A = ℕ} 0 1 = cc in absurd (omega arith)
 
-  pub at-hour-below : IsQuarter quarter → (hour : ℕ) → quarterHour year quarter date ≡ At hour → hour < 2208
+  pub at-hour-below : IsQuarter quarter → (hour : ℕ) → quarterHour year quarter date ≡ At hour → hour < mostHours
   at-hour-below q hour e = omega (arith, at-hour hour e .below, hours-in-quarter year quarter q)
 
 -- each hour of the quarter is the answer for its date

@@ -2,4 +2,3 @@
 pub mod Calendar
 pub mod MonthLaws
 pub mod CalendarLaws
-pub mod OrderLaws

@@ -1,16 +1,16 @@
 -- Laws of the hour pass: what is left to judge from an hour, or from a figure, on.
-use Prim.Native.Nat.{ℕ, zero, suc, _+_, _-_, _*_, _≤_, _<_}
+use Prim.Native.Nat.{ℕ, zero, suc, _+_, _-_, _≤_, _<_}
 use mathlib.Core.Path.{_≡_, refl, sym, ap, _∙_}
-use mathlib.Core.List.{List, [], _∷_}
-use mathlib.Core.Bool.{Bool, true, false}
+use mathlib.Core.List.{List, _∷_}
+use mathlib.Core.Bool.{true, false}
 use native.Mathlib.Omega.{arith}
 use native.Mathlib.Numerals.{add-one}
 use lib.ListN.{drop}
-use borrow.Author.Tests.{eq-eqb, ne-eqb}
+use Rattle.exact.specs.Logic.{ranked, ranked-next, ranked-end}
 use Rattle.layout.specs.Layout.{lineOf, countOf}
 use Rattle.formulas.specs.Formulas.{passesTest}
 use Rattle.totals.specs.Totals.{Room, noTotals, withHour, runningTotals, totalsOf, quarterOf, quarterTotals}
-use Rattle.totals.specs.TotalLaws.{running-totals, running-next, running-end, quarter-formed}
+use Rattle.totals.specs.TotalLaws.{grown-hours, running-totals, running-next, running-end, quarter-formed}
 use Rattle.layout.specs.declared.RecordType.the-variants.{QuarterTotals}
 use Rattle.layout.specs.declared.Shape.{Shape}
 use Rattle.formulas.specs.declared.hour.Hour.{Hour}
@@ -18,7 +18,7 @@ use Rattle.formulas.specs.declared.hour.Quantity.{Quantity}
 use Rattle.formulas.specs.declared.hour.Quantity.the-variants.{Heat, So2, Nox, Co2}
 use Rattle.totals.specs.declared.Totals.{Totals}
 use Rattle.totals.specs.declared.Quarter.{Quarter}
-use Rattle.reading.specs.Recorded.{Line, recordAt, hourCount, hourAt, hoursFrom, hoursOf, totalsIn}
+use Rattle.reading.specs.Recorded.{Line, recordAt, hourCount, hourAt, hoursOf, totalsIn}
 use Rattle.reading.specs.Places.{Standing}
 use Rattle.reading.specs.RecordLaws.{record-at, hours-standing}
 use Rattle.checker.specs.Checked.{refusedAt, quantities, quantityAt, numberFor, typeFor, lineFor, judgedFigures, judgedHours, comparedTotals, judged}
@@ -45,7 +45,7 @@ module _ (file : List ℕ) (s : Shape) where
 
   -- what is left from hour k on
   abbrev pub hoursLeft : ℕ → List Hour
-  hoursLeft k = hoursFrom file k (s .hours - k)
+  hoursLeft k = ranked (hourAt file) k (s .hours - k)
 
   unfoldable pub left : ℕ → Answer
   left k = judgedHours file k (hoursLeft k) ending
@@ -58,17 +58,13 @@ module _ (file : List ℕ) (s : Shape) where
   unfolding left ending judged hoursOf
   left-first d = let e : s .hours - 0 ≡ hourCount file = omega (arith, hours-standing file s d) in rw e
 
-  hours-next : (k : ℕ) → k < s .hours → hoursLeft k ≡ hourAt file k ∷ hoursLeft (k + 1)
-  unfolding hoursFrom
-  hours-next k h = let e : s .hours - k ≡ suc (s .hours - (k + 1)) = omega arith in rw (e, add-one k)
-
   pub left-hour : (k : ℕ) → k < s .hours → figuresLeft k (hourAt file k) 0 ≡ left k
   unfolding left figuresLeft judgedHours
-  left-hour k h = rw (hours-next k h, add-one k)
+  left-hour k h = rw (ranked-next (hourAt file) (s .hours) k h, add-one k)
 
   pub left-end : left (s .hours) ≡ ending
-  unfolding left hoursFrom judgedHours
-  left-end = let e : s .hours - s .hours ≡ 0 = omega arith in rw e
+  unfolding left judgedHours
+  left-end = rw (ranked-end (hourAt file) (s .hours) (s .hours) (omega arith))
 
   drop-quantity : (j : ℕ) → j < 4 → drop j quantities ≡ quantityAt j ∷ drop (j + 1) quantities
   drop-quantity zero h = refl
@@ -102,15 +98,14 @@ module _ (file : List ℕ) (s : Shape) where
   unfolding hoursOf
   totals-first d =
       let e : s .hours - 0 ≡ hourCount file = omega (arith, hours-standing file s d) in
-      rw e (running-totals (hoursFrom file 0 (hourCount file)))
+      rw e (running-totals (ranked (hourAt file) 0 (hourCount file)))
 
   pub totals-next : (t : Totals) (k : ℕ) → k < s .hours →
       runningTotals (withHour t (hourAt file k .figures) (hourAt file k .time)) (hoursLeft (k + 1)) ≡ runningTotals t (hoursLeft k)
-  totals-next t k h = rw (hours-next k h) (sym (running-next t (hourAt file k) (hoursLeft (k + 1))))
+  totals-next t k h = rw (ranked-next (hourAt file) (s .hours) k h) (sym (running-next t (hourAt file k) (hoursLeft (k + 1))))
 
   pub totals-end : (t : Totals) → runningTotals t (hoursLeft (s .hours)) ≡ t
-  unfolding hoursFrom
-  totals-end t = let e : s .hours - s .hours ≡ 0 = omega arith in rw e (running-end t)
+  totals-end t = rw (ranked-end (hourAt file) (s .hours) (s .hours) (omega arith)) (running-end t)
 
   pub ending-is : Standing file s → (t : Totals) → t ≡ totalsOf (hoursOf file) →
       comparedTotals (lineOf s QuarterTotals 0) (quarterOf t) (totalsIn file) ≡ ending
@@ -125,33 +120,29 @@ pub record HourPass (file : List ℕ) (s : Shape) (totals : Totals) (k : ℕ) : 
   pub sums : runningTotals totals (hoursLeft file s k) ≡ totalsOf (hoursOf file)
   pub rest : left file s k ≡ judged file
 
--- it has come to the end
-pub pass-end : (file : List ℕ) (s : Shape) (t : Totals) (k : ℕ) → Standing file s → HourPass file s t k → k ≡ s .hours →
-    comparedTotals (lineOf s QuarterTotals 0) (quarterOf t) (totalsIn file) ≡ judged file
-pass-end file s t k d p e =
-    let sums = rw e at (p .sums) in
-    let rest = rw e at (p .rest) in
-    ending-is file s d t (sym (totals-end file s t) ∙ sums) ∙ sym (left-end file s) ∙ rest
-
 -- the figures of hour k are passed up to figure j
 pub record FigurePass (file : List ℕ) (s : Shape) (k : ℕ) (hour : Hour) (j : ℕ) : Type 0 where
   pub few : j ≤ 4
   pub rest : figuresLeft file s k hour j ≡ judged file
 
--- the totals in the order of their columns
-module _ (line : ℕ) (f s : Quarter) where
-  pub so2-differs : (f .so2 ≡ s .so2 → ⊥) → refusedAt 21 line ≡ comparedTotals line f s
-  unfolding comparedTotals
-  so2-differs a = rw (ne-eqb (f .so2) (s .so2) a, comparedTotals)
+-- hour k, whose figures all passed, was added
+pub pass-next : (file : List ℕ) (s : Shape) (t : Totals) (k : ℕ) (h : Hour) (j : ℕ) (grown : Totals) → HourPass file s t k → k < s .hours → h ≡ hourAt file k →
+    grown ≡ withHour t (h .figures) (h .time) → Room grown → FigurePass file s k h j → 4 ≤ j → HourPass file s grown (k + 1)
+pass-next file s t k h j grown p b e g r f l =
+    let z : j ≡ 4 = omega (arith, f .few) in
+    let done = rw z at (f .rest) in
+    record {
+      few = omega arith;
+      room = r;
+      count = ap (λ (x : Totals). x .hours) g ∙ grown-hours t (h .figures) (h .time) ∙ ap (λ (n : ℕ). n + 1) (p .count);
+      sums = rw (g, e) (totals-next file s t k b ∙ p .sums);
+      rest = sym (figures-done file s k h) ∙ done;
+    }
 
-  pub co2-differs : f .so2 ≡ s .so2 → (f .co2 ≡ s .co2 → ⊥) → refusedAt 22 line ≡ comparedTotals line f s
-  unfolding comparedTotals
-  co2-differs a b = rw (eq-eqb (f .so2) (s .so2) a, comparedTotals, ne-eqb (f .co2) (s .co2) b)
-
-  pub heat-differs : f .so2 ≡ s .so2 → f .co2 ≡ s .co2 → (f .heat ≡ s .heat → ⊥) → refusedAt 23 line ≡ comparedTotals line f s
-  unfolding comparedTotals
-  heat-differs a b c = rw (eq-eqb (f .so2) (s .so2) a, comparedTotals, eq-eqb (f .co2) (s .co2) b, ne-eqb (f .heat) (s .heat) c)
-
-  pub nox-differs : f .so2 ≡ s .so2 → f .co2 ≡ s .co2 → f .heat ≡ s .heat → (f .nox ≡ s .nox → ⊥) → refusedAt 24 line ≡ comparedTotals line f s
-  unfolding comparedTotals
-  nox-differs a b c d = rw (eq-eqb (f .so2) (s .so2) a, comparedTotals, eq-eqb (f .co2) (s .co2) b, eq-eqb (f .heat) (s .heat) c, ne-eqb (f .nox) (s .nox) d)
+-- no hour is left
+pub pass-end : (file : List ℕ) (s : Shape) (t : Totals) (k : ℕ) {line : ℕ} {formed stated : Quarter} → Standing file s → HourPass file s t k → k ≡ s .hours →
+    line ≡ lineOf s QuarterTotals 0 → formed ≡ quarterOf t → stated ≡ totalsIn file → comparedTotals line formed stated ≡ judged file
+pass-end file s t k d p e l f g =
+    let sums = rw e at (p .sums) in
+    let rest = rw e at (p .rest) in
+    rw (l, f, g) (ending-is file s d t (sym (totals-end file s t) ∙ sums) ∙ sym (left-end file s) ∙ rest)

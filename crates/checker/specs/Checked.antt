@@ -1,6 +1,6 @@
 -- What the check answers to a file. It computes.
 use Prim.Native.Nat.{ℕ, zero, suc}
-use mathlib.Core.List.{List, [], _∷_}
+use mathlib.Core.List.{List, [], _∷_, map}
 use mathlib.Core.Bool.{true, false}
 use lib.Dec.{eqb}
 use Rattle.formulas.specs.Formulas.{passesTest}
@@ -11,6 +11,7 @@ use Rattle.formulas.specs.declared.hour.Hour.{Hour}
 use Rattle.formulas.specs.declared.hour.Quantity.{Quantity}
 use Rattle.formulas.specs.declared.hour.Quantity.the-variants.{Heat, So2, Nox, Co2}
 use Rattle.totals.specs.declared.Quarter.{Quarter}
+use Rattle.lines.specs.LineFaults.{_orElse_, unless}
 use Rattle.reading.specs.Reading.{readOf}
 use Rattle.reading.specs.Recorded.{recordAt, hoursOf, totalsIn}
 use Rattle.reading.specs.declared.Reading.{Reading}
@@ -18,9 +19,21 @@ use Rattle.reading.specs.declared.Reading.the-variants.{Clean, Refused as Stopp
 use Rattle.checker.specs.declared.Answer.{Answer}
 use Rattle.checker.specs.declared.Answer.the-variants.{Accepted, Refused}
 
--- what an answer says, as 01 has it: n and the totals (three in tenths, the mean in thousandths), or number and line
+-- a total that line 301 states, and its refusal
+pub record Stated : Type 0 where
+  pub number : ℕ
+  pub amount : Quarter → ℕ
+
+abbrev stated : ℕ → (Quarter → ℕ) → Stated
+stated number amount = record { number = number; amount = amount }
+
+-- in the order of its columns: three in tenths, the mean in thousandths
+abbrev pub statedTotals : List Stated
+statedTotals = stated 21 (λ r. r .so2) ∷ stated 22 (λ r. r .co2) ∷ stated 23 (λ r. r .heat) ∷ stated 24 (λ r. r .nox) ∷ []
+
+-- what an answer says, as 01 has it: n and the totals, or number and line
 abbrev pub acceptance : Quarter → List ℕ
-acceptance r = r .hours ∷ r .so2 ∷ r .co2 ∷ r .heat ∷ r .nox ∷ []
+acceptance r = r .hours ∷ map (λ (t : Stated). t .amount r) statedTotals
 
 abbrev pub refusal : ℕ → ℕ → List ℕ
 refusal number line = number ∷ line ∷ []
@@ -70,22 +83,21 @@ unfoldable pub judgedHours : List ℕ → ℕ → List Hour → Answer → Answe
 judgedHours file k [] rest = rest
 judgedHours file k (h ∷ hs) rest = judgedFigures quantities file k h (judgedHours file (suc k) hs rest)
 
--- the totals formed against those stated on line 301
+-- the first of some totals that differs from the one stated, by its number; 0 where none does
+unfoldable pub firstDiffering : List Stated → Quarter → Quarter → ℕ
+firstDiffering [] formed said = 0
+firstDiffering (t ∷ ts) formed said = unless (eqb (t .amount formed) (t .amount said)) (t .number) orElse firstDiffering ts formed said
+
+abbrev pub totalsFault : Quarter → Quarter → ℕ
+totalsFault formed said = firstDiffering statedTotals formed said
+
+-- accepted where there is no fault
+abbrev pub verdict : ℕ → ℕ → Quarter → Answer
+verdict zero line formed = Accepted formed
+verdict (suc fault) line formed = refusedAt (suc fault) line
+
 unfoldable pub comparedTotals : ℕ → Quarter → Quarter → Answer
-comparedTotals line formed stated =
-    elim (eqb (formed .so2) (stated .so2)) [
-      | false ↦ refusedAt 21 line
-      | true ↦
-          elim (eqb (formed .co2) (stated .co2)) [
-            | false ↦ refusedAt 22 line
-            | true ↦
-                elim (eqb (formed .heat) (stated .heat)) [
-                  | false ↦ refusedAt 23 line
-                  | true ↦
-                      elim (eqb (formed .nox) (stated .nox)) [ false ↦ refusedAt 24 line | true ↦ Accepted formed ]
-                ]
-          ]
-    ]
+comparedTotals line formed said = verdict (totalsFault formed said) line formed
 
 -- the hours and the totals of a file whose lines are right
 unfoldable pub judged : List ℕ → Answer

@@ -3,7 +3,8 @@ use mathlib.Core.Path.{_≡_, refl}
 use mathlib.Core.Bool.{Bool, true, _&&_}
 use lib.ListN.{take, drop}
 use mathlib.Core.List.{List, [], _∷_, _++_}
-use Prim.Native.Nat.{ℕ}
+use Prim.Native.Nat.{ℕ, _+_, _-_}
+use Rattle.exact.specs.Logic.{ranked}
 use Rattle.exact.specs.Fraction.{over}
 use Rattle.exact.specs.Behind.{meets}
 use Rattle.exact.specs.Sums.{totalOf}
@@ -12,15 +13,19 @@ use Rattle.columns.specs.Columns.{columns, put}
 use Rattle.columns.specs.Number.{digitsFrom, wholeOf, decimalsBehind, fixedOf, fieldOf, numberOf}
 use Rattle.columns.specs.Written.{digitsOf}
 use Rattle.calendar.specs.Calendar.{leapYear, daysInMonth, inQuarter, daysBefore, hourOfQuarter, quarterHour}
-use Rattle.layout.specs.Layout.{lengthOf, within}
+use Rattle.layout.specs.Layout.{lengthOf, shape, offsetOf, within}
+use Rattle.layout.specs.declared.RecordType.{RecordType}
+use Rattle.layout.specs.declared.RecordType.the-variants.{So2Concentration, NoxConcentration, Co2Concentration, VolumetricFlow, Operation}
+use Rattle.layout.specs.declared.RecordType.the-variants.{QuarterTotals, So2Mass, NoxRate, Co2Mass}
 use Rattle.stamp.specs.Stamp.{numberHour, fieldHour, stampHour}
 use Rattle.formulas.specs.Formulas.{passesTest}
 use Rattle.totals.specs.Totals.{totalsOf, meanOf, quarterOf, quarterTotals}
 use Rattle.lines.specs.Lines.{onto, lines, last}
-use Rattle.lines.specs.LineFaults.{typeIs, shapeFault, stackFault, commonFault, fieldFault, valuesFault, digitsIn, facilityFault, facilityLine, risingFault, hourFault, hourNumber, hourLine, dateFault, dueFault}
+use Rattle.lines.specs.LineFaults.{typeIs, shapeFault, stackFault, commonFault, fieldFault, valuesFault, digitsIn}
+use Rattle.lines.specs.LineFaults.{facilityFault, facilityLine, risingFault, hourFault, hourNumber, hourLine, dateFault, dueFault}
 use Rattle.reading.specs.Reading.{runOf, runsOf, walkDue, walkLater, walkHours, walk, readOf}
-use Rattle.reading.specs.Recorded.{linesWith, recordsOf, valueOn, hourAt, hoursFrom, hoursOf, totalsIn}
-use Rattle.checker.specs.Checked.{refusal, numbersOf, judgedFigures, judgedHours, comparedTotals, judged, afterReading, checked}
+use Rattle.reading.specs.Recorded.{linesWith, recordsOf, valueOn, hourAt, hoursOf, totalsIn}
+use Rattle.checker.specs.Checked.{refusal, numbersOf, judgedFigures, judgedHours, firstDiffering, comparedTotals, judged, afterReading, checked}
 
 -- one hour at 2005 quarter 3, hour 0, time 0.50, SO2 250.0, NOx 200.0, CO2 12.0, flow 20,000,000, Fc 1,800.0
 unfoldable pub workedHour : List ℕ
@@ -28,21 +33,29 @@ workedHour =
     -- 100STACK120053
     (49 ∷ 48 ∷ 48 ∷ 83 ∷ 84 ∷ 65 ∷ 67 ∷ 75 ∷ 49 ∷ 50 ∷ 48 ∷ 48 ∷ 53 ∷ 51 ∷ 10 ∷ []) ++
     -- 200STACK1      05070100            250.0
-    (50 ∷ 48 ∷ 48 ∷ 83 ∷ 84 ∷ 65 ∷ 67 ∷ 75 ∷ 49 ∷ 32 ∷ 32 ∷ 32 ∷ 32 ∷ 32 ∷ 32 ∷ 48 ∷ 53 ∷ 48 ∷ 55 ∷ 48 ∷ 49 ∷ 48 ∷ 48 ∷ 32 ∷ 32 ∷ 32 ∷ 32 ∷ 32 ∷ 32 ∷ 32 ∷ 32 ∷ 32 ∷ 32 ∷ 32 ∷ 32 ∷ 50 ∷ 53 ∷ 48 ∷ 46 ∷ 48 ∷ 10 ∷ []) ++
+    (50 ∷ 48 ∷ 48 ∷ 83 ∷ 84 ∷ 65 ∷ 67 ∷ 75 ∷ 49 ∷ 32 ∷ 32 ∷ 32 ∷ 32 ∷ 32 ∷ 32 ∷ 48 ∷ 53 ∷ 48 ∷ 55 ∷ 48 ∷ 49 ∷ 48 ∷ 48 ∷ 32 ∷ 32 ∷ 32 ∷ 32 ∷ 32 ∷ 32 ∷
+    32 ∷ 32 ∷ 32 ∷ 32 ∷ 32 ∷ 32 ∷ 50 ∷ 53 ∷ 48 ∷ 46 ∷ 48 ∷ 10 ∷ []) ++
     -- 201STACK1      05070100      200.0
-    (50 ∷ 48 ∷ 49 ∷ 83 ∷ 84 ∷ 65 ∷ 67 ∷ 75 ∷ 49 ∷ 32 ∷ 32 ∷ 32 ∷ 32 ∷ 32 ∷ 32 ∷ 48 ∷ 53 ∷ 48 ∷ 55 ∷ 48 ∷ 49 ∷ 48 ∷ 48 ∷ 32 ∷ 32 ∷ 32 ∷ 32 ∷ 32 ∷ 32 ∷ 50 ∷ 48 ∷ 48 ∷ 46 ∷ 48 ∷ 10 ∷ []) ++
+    (50 ∷ 48 ∷ 49 ∷ 83 ∷ 84 ∷ 65 ∷ 67 ∷ 75 ∷ 49 ∷ 32 ∷ 32 ∷ 32 ∷ 32 ∷ 32 ∷ 32 ∷ 48 ∷ 53 ∷ 48 ∷ 55 ∷ 48 ∷ 49 ∷ 48 ∷ 48 ∷ 32 ∷ 32 ∷ 32 ∷ 32 ∷ 32 ∷ 32 ∷
+    50 ∷ 48 ∷ 48 ∷ 46 ∷ 48 ∷ 10 ∷ []) ++
     -- 202STACK1      05070100       12.0
-    (50 ∷ 48 ∷ 50 ∷ 83 ∷ 84 ∷ 65 ∷ 67 ∷ 75 ∷ 49 ∷ 32 ∷ 32 ∷ 32 ∷ 32 ∷ 32 ∷ 32 ∷ 48 ∷ 53 ∷ 48 ∷ 55 ∷ 48 ∷ 49 ∷ 48 ∷ 48 ∷ 32 ∷ 32 ∷ 32 ∷ 32 ∷ 32 ∷ 32 ∷ 32 ∷ 49 ∷ 50 ∷ 46 ∷ 48 ∷ 10 ∷ []) ++
+    (50 ∷ 48 ∷ 50 ∷ 83 ∷ 84 ∷ 65 ∷ 67 ∷ 75 ∷ 49 ∷ 32 ∷ 32 ∷ 32 ∷ 32 ∷ 32 ∷ 32 ∷ 48 ∷ 53 ∷ 48 ∷ 55 ∷ 48 ∷ 49 ∷ 48 ∷ 48 ∷ 32 ∷ 32 ∷ 32 ∷ 32 ∷ 32 ∷ 32 ∷
+    32 ∷ 49 ∷ 50 ∷ 46 ∷ 48 ∷ 10 ∷ []) ++
     -- 220STACK1      05070100                 20000000
-    (50 ∷ 50 ∷ 48 ∷ 83 ∷ 84 ∷ 65 ∷ 67 ∷ 75 ∷ 49 ∷ 32 ∷ 32 ∷ 32 ∷ 32 ∷ 32 ∷ 32 ∷ 48 ∷ 53 ∷ 48 ∷ 55 ∷ 48 ∷ 49 ∷ 48 ∷ 48 ∷ 32 ∷ 32 ∷ 32 ∷ 32 ∷ 32 ∷ 32 ∷ 32 ∷ 32 ∷ 32 ∷ 32 ∷ 32 ∷ 32 ∷ 32 ∷ 32 ∷ 32 ∷ 32 ∷ 32 ∷ 50 ∷ 48 ∷ 48 ∷ 48 ∷ 48 ∷ 48 ∷ 48 ∷ 48 ∷ 10 ∷ []) ++
+    (50 ∷ 50 ∷ 48 ∷ 83 ∷ 84 ∷ 65 ∷ 67 ∷ 75 ∷ 49 ∷ 32 ∷ 32 ∷ 32 ∷ 32 ∷ 32 ∷ 32 ∷ 48 ∷ 53 ∷ 48 ∷ 55 ∷ 48 ∷ 49 ∷ 48 ∷ 48 ∷ 32 ∷ 32 ∷ 32 ∷ 32 ∷ 32 ∷ 32 ∷
+    32 ∷ 32 ∷ 32 ∷ 32 ∷ 32 ∷ 32 ∷ 32 ∷ 32 ∷ 32 ∷ 32 ∷ 32 ∷ 50 ∷ 48 ∷ 48 ∷ 48 ∷ 48 ∷ 48 ∷ 48 ∷ 48 ∷ 10 ∷ []) ++
     -- 300STACK1050701000.50               1333.3
-    (51 ∷ 48 ∷ 48 ∷ 83 ∷ 84 ∷ 65 ∷ 67 ∷ 75 ∷ 49 ∷ 48 ∷ 53 ∷ 48 ∷ 55 ∷ 48 ∷ 49 ∷ 48 ∷ 48 ∷ 48 ∷ 46 ∷ 53 ∷ 48 ∷ 32 ∷ 32 ∷ 32 ∷ 32 ∷ 32 ∷ 32 ∷ 32 ∷ 32 ∷ 32 ∷ 32 ∷ 32 ∷ 32 ∷ 32 ∷ 32 ∷ 32 ∷ 49 ∷ 51 ∷ 51 ∷ 51 ∷ 46 ∷ 51 ∷ 10 ∷ []) ++
+    (51 ∷ 48 ∷ 48 ∷ 83 ∷ 84 ∷ 65 ∷ 67 ∷ 75 ∷ 49 ∷ 48 ∷ 53 ∷ 48 ∷ 55 ∷ 48 ∷ 49 ∷ 48 ∷ 48 ∷ 48 ∷ 46 ∷ 53 ∷ 48 ∷ 32 ∷ 32 ∷ 32 ∷ 32 ∷ 32 ∷ 32 ∷ 32 ∷ 32 ∷
+    32 ∷ 32 ∷ 32 ∷ 32 ∷ 32 ∷ 32 ∷ 32 ∷ 49 ∷ 51 ∷ 51 ∷ 51 ∷ 46 ∷ 51 ∷ 10 ∷ []) ++
     -- 301STACK1        0.2       68.4      666.7 0.358
-    (51 ∷ 48 ∷ 49 ∷ 83 ∷ 84 ∷ 65 ∷ 67 ∷ 75 ∷ 49 ∷ 32 ∷ 32 ∷ 32 ∷ 32 ∷ 32 ∷ 32 ∷ 32 ∷ 32 ∷ 48 ∷ 46 ∷ 50 ∷ 32 ∷ 32 ∷ 32 ∷ 32 ∷ 32 ∷ 32 ∷ 32 ∷ 54 ∷ 56 ∷ 46 ∷ 52 ∷ 32 ∷ 32 ∷ 32 ∷ 32 ∷ 32 ∷ 32 ∷ 54 ∷ 54 ∷ 54 ∷ 46 ∷ 55 ∷ 32 ∷ 48 ∷ 46 ∷ 51 ∷ 53 ∷ 56 ∷ 10 ∷ []) ++
+    (51 ∷ 48 ∷ 49 ∷ 83 ∷ 84 ∷ 65 ∷ 67 ∷ 75 ∷ 49 ∷ 32 ∷ 32 ∷ 32 ∷ 32 ∷ 32 ∷ 32 ∷ 32 ∷ 32 ∷ 48 ∷ 46 ∷ 50 ∷ 32 ∷ 32 ∷ 32 ∷ 32 ∷ 32 ∷ 32 ∷ 32 ∷ 54 ∷ 56 ∷
+    46 ∷ 52 ∷ 32 ∷ 32 ∷ 32 ∷ 32 ∷ 32 ∷ 32 ∷ 54 ∷ 54 ∷ 54 ∷ 46 ∷ 55 ∷ 32 ∷ 48 ∷ 46 ∷ 51 ∷ 53 ∷ 56 ∷ 10 ∷ []) ++
     -- 310STACK105070100         830.0
-    (51 ∷ 49 ∷ 48 ∷ 83 ∷ 84 ∷ 65 ∷ 67 ∷ 75 ∷ 49 ∷ 48 ∷ 53 ∷ 48 ∷ 55 ∷ 48 ∷ 49 ∷ 48 ∷ 48 ∷ 32 ∷ 32 ∷ 32 ∷ 32 ∷ 32 ∷ 32 ∷ 32 ∷ 32 ∷ 32 ∷ 56 ∷ 51 ∷ 48 ∷ 46 ∷ 48 ∷ 32 ∷ 32 ∷ 32 ∷ 10 ∷ []) ++
+    (51 ∷ 49 ∷ 48 ∷ 83 ∷ 84 ∷ 65 ∷ 67 ∷ 75 ∷ 49 ∷ 48 ∷ 53 ∷ 48 ∷ 55 ∷ 48 ∷ 49 ∷ 48 ∷ 48 ∷ 32 ∷ 32 ∷ 32 ∷ 32 ∷ 32 ∷ 32 ∷ 32 ∷ 32 ∷ 32 ∷ 56 ∷ 51 ∷ 48 ∷
+    46 ∷ 48 ∷ 32 ∷ 32 ∷ 32 ∷ 10 ∷ []) ++
     -- 320STACK1   05070100         1800.0 0.358
-    (51 ∷ 50 ∷ 48 ∷ 83 ∷ 84 ∷ 65 ∷ 67 ∷ 75 ∷ 49 ∷ 32 ∷ 32 ∷ 32 ∷ 48 ∷ 53 ∷ 48 ∷ 55 ∷ 48 ∷ 49 ∷ 48 ∷ 48 ∷ 32 ∷ 32 ∷ 32 ∷ 32 ∷ 32 ∷ 32 ∷ 32 ∷ 32 ∷ 32 ∷ 49 ∷ 56 ∷ 48 ∷ 48 ∷ 46 ∷ 48 ∷ 32 ∷ 48 ∷ 46 ∷ 51 ∷ 53 ∷ 56 ∷ 32 ∷ 32 ∷ 32 ∷ 32 ∷ 32 ∷ 32 ∷ 32 ∷ 32 ∷ 32 ∷ 32 ∷ 32 ∷ 32 ∷ 32 ∷ 10 ∷ []) ++
+    (51 ∷ 50 ∷ 48 ∷ 83 ∷ 84 ∷ 65 ∷ 67 ∷ 75 ∷ 49 ∷ 32 ∷ 32 ∷ 32 ∷ 48 ∷ 53 ∷ 48 ∷ 55 ∷ 48 ∷ 49 ∷ 48 ∷ 48 ∷ 32 ∷ 32 ∷ 32 ∷ 32 ∷ 32 ∷ 32 ∷ 32 ∷ 32 ∷ 32 ∷
+    49 ∷ 56 ∷ 48 ∷ 48 ∷ 46 ∷ 48 ∷ 32 ∷ 48 ∷ 46 ∷ 51 ∷ 53 ∷ 56 ∷ 32 ∷ 32 ∷ 32 ∷ 32 ∷ 32 ∷ 32 ∷ 32 ∷ 32 ∷ 32 ∷ 32 ∷ 32 ∷ 32 ∷ 32 ∷ 10 ∷ []) ++
     -- 330STACK105070100  136.8
     (51 ∷ 51 ∷ 48 ∷ 83 ∷ 84 ∷ 65 ∷ 67 ∷ 75 ∷ 49 ∷ 48 ∷ 53 ∷ 48 ∷ 55 ∷ 48 ∷ 49 ∷ 48 ∷ 48 ∷ 32 ∷ 32 ∷ 49 ∷ 51 ∷ 54 ∷ 46 ∷ 56 ∷ 10 ∷ [])
 
@@ -52,15 +65,8 @@ emptyQuarter =
     -- 100STACK120053
     (49 ∷ 48 ∷ 48 ∷ 83 ∷ 84 ∷ 65 ∷ 67 ∷ 75 ∷ 49 ∷ 50 ∷ 48 ∷ 48 ∷ 53 ∷ 51 ∷ 10 ∷ []) ++
     -- 301STACK1        0.0        0.0        0.0 0.000
-    (51 ∷ 48 ∷ 49 ∷ 83 ∷ 84 ∷ 65 ∷ 67 ∷ 75 ∷ 49 ∷ 32 ∷ 32 ∷ 32 ∷ 32 ∷ 32 ∷ 32 ∷ 32 ∷ 32 ∷ 48 ∷ 46 ∷ 48 ∷ 32 ∷ 32 ∷ 32 ∷ 32 ∷ 32 ∷ 32 ∷ 32 ∷ 32 ∷ 48 ∷ 46 ∷ 48 ∷ 32 ∷ 32 ∷ 32 ∷ 32 ∷ 32 ∷ 32 ∷ 32 ∷ 32 ∷ 48 ∷ 46 ∷ 48 ∷ 32 ∷ 48 ∷ 46 ∷ 48 ∷ 48 ∷ 48 ∷ 10 ∷ [])
-
-pub worked-hour : numbersOf (checked workedHour) ≡ 1 ∷ 2 ∷ 684 ∷ 6667 ∷ 358 ∷ []
-unfolding workedHour over meets totalOf all same columns digitsFrom wholeOf decimalsBehind fixedOf fieldOf numberOf digitsOf leapYear daysInMonth inQuarter daysBefore hourOfQuarter quarterHour numberHour fieldHour stampHour passesTest totalsOf meanOf quarterOf quarterTotals onto lines last typeIs shapeFault stackFault commonFault within fieldFault valuesFault digitsIn facilityFault facilityLine risingFault hourFault hourNumber hourLine dateFault dueFault runOf runsOf walkDue walkLater walkHours walk readOf linesWith recordsOf valueOn hourAt hoursFrom hoursOf totalsIn judgedFigures judgedHours comparedTotals judged afterReading checked
-worked-hour = refl
-
-pub empty-quarter : numbersOf (checked emptyQuarter) ≡ 0 ∷ 0 ∷ 0 ∷ 0 ∷ 0 ∷ []
-unfolding emptyQuarter over meets totalOf all same columns digitsFrom wholeOf decimalsBehind fixedOf fieldOf numberOf digitsOf leapYear daysInMonth inQuarter daysBefore hourOfQuarter quarterHour numberHour fieldHour stampHour passesTest totalsOf meanOf quarterOf quarterTotals onto lines last typeIs shapeFault stackFault commonFault within fieldFault valuesFault digitsIn facilityFault facilityLine risingFault hourFault hourNumber hourLine dateFault dueFault runOf runsOf walkDue walkLater walkHours walk readOf linesWith recordsOf valueOn hourAt hoursFrom hoursOf totalsIn judgedFigures judgedHours comparedTotals judged afterReading checked
-empty-quarter = refl
+    (51 ∷ 48 ∷ 49 ∷ 83 ∷ 84 ∷ 65 ∷ 67 ∷ 75 ∷ 49 ∷ 32 ∷ 32 ∷ 32 ∷ 32 ∷ 32 ∷ 32 ∷ 32 ∷ 32 ∷ 48 ∷ 46 ∷ 48 ∷ 32 ∷ 32 ∷ 32 ∷ 32 ∷ 32 ∷ 32 ∷ 32 ∷ 32 ∷ 48 ∷
+    46 ∷ 48 ∷ 32 ∷ 32 ∷ 32 ∷ 32 ∷ 32 ∷ 32 ∷ 32 ∷ 32 ∷ 48 ∷ 46 ∷ 48 ∷ 32 ∷ 48 ∷ 46 ∷ 48 ∷ 48 ∷ 48 ∷ 10 ∷ [])
 
 -- a file, and the number and the line that the check names
 pub record Damage : Type 0 where
@@ -68,48 +74,59 @@ pub record Damage : Type 0 where
   pub number : ℕ
   pub line : ℕ
 
--- the worked hour with these bytes from this byte on, counted from 1
-abbrev pub changed : ℕ → List ℕ → List ℕ
-changed at bytes = put at bytes workedHour
+-- the bytes in front of a record of the worked hour, and it with these bytes from a column of the record on
+abbrev pub start : RecordType → ℕ
+start t = offsetOf (shape 1) t 0
+
+abbrev pub changed : RecordType → ℕ → List ℕ → List ℕ
+changed t column bytes = put (start t + column) bytes workedHour
 
 -- every line number is told from the lines of the file: those that the line checks count, those of the figures, and that of the totals
 abbrev pub damages : List Damage
 damages =
     -- no byte 10 at the end
-    record { file = take 381 workedHour; number = 1; line = 0 }
+    record { file = take (start Co2Mass + lengthOf Co2Mass) workedHour; number = 1; line = 0 }
     -- 310 begins with 910
-    ∷ record { file = changed 268 (57 ∷ []); number = 2; line = 8 }
+    ∷ record { file = changed So2Mass 1 (57 ∷ []); number = 2; line = 8 }
     -- a line follows the last one
     ∷ record { file = workedHour ++ (51 ∷ 10 ∷ []); number = 2; line = 11 }
     -- 202 has lost its last column
-    ∷ record { file = take 124 workedHour ++ drop 125 workedHour; number = 3; line = 4 }
+    ∷ record { file = take (start Co2Concentration + 33) workedHour ++ drop (start VolumetricFlow - 1) workedHour; number = 3; line = 4 }
     -- byte 127 in a column of 201 that is not read
-    ∷ record { file = changed 66 (127 ∷ []); number = 4; line = 3 }
+    ∷ record { file = changed NoxConcentration 10 (127 ∷ []); number = 4; line = 3 }
     -- XTACK1 on 220
-    ∷ record { file = changed 130 (88 ∷ []); number = 5; line = 5 }
+    ∷ record { file = changed VolumetricFlow 4 (88 ∷ []); number = 5; line = 5 }
     -- month 13 on 200
-    ∷ record { file = changed 33 (49 ∷ 51 ∷ []); number = 6; line = 2 }
+    ∷ record { file = changed So2Concentration 18 (49 ∷ 51 ∷ []); number = 6; line = 2 }
     -- hour 01 on 320
-    ∷ record { file = changed 322 (49 ∷ []); number = 7; line = 9 }
+    ∷ record { file = changed NoxRate 20 (49 ∷ []); number = 7; line = 9 }
     -- no point on 330
-    ∷ record { file = changed 380 (48 ∷ []); number = 8; line = 10 }
+    ∷ record { file = changed Co2Mass 23 (48 ∷ []); number = 8; line = 10 }
     -- CO2 0.0 percent
-    ∷ record { file = changed 122 (48 ∷ 48 ∷ 46 ∷ 48 ∷ []); number = 9; line = 4 }
+    ∷ record { file = changed Co2Concentration 31 (48 ∷ 48 ∷ 46 ∷ 48 ∷ []); number = 9; line = 4 }
     -- 330 is missing
-    ∷ record { file = take 357 workedHour; number = 10; line = 10 }
+    ∷ record { file = take (start Co2Mass) workedHour; number = 10; line = 10 }
     -- heat input 1,933.3; SO2 930.0; NOx 0.958; CO2 936.8
-    ∷ record { file = changed 213 (57 ∷ []); number = 11; line = 6 }
-    ∷ record { file = changed 294 (57 ∷ []); number = 12; line = 8 }
-    ∷ record { file = changed 341 (57 ∷ []); number = 13; line = 9 }
-    ∷ record { file = changed 377 (57 ∷ []); number = 14; line = 10 }
+    ∷ record { file = changed Operation 38 (57 ∷ []); number = 11; line = 6 }
+    ∷ record { file = changed So2Mass 27 (57 ∷ []); number = 12; line = 8 }
+    ∷ record { file = changed NoxRate 39 (57 ∷ []); number = 13; line = 9 }
+    ∷ record { file = changed Co2Mass 20 (57 ∷ []); number = 14; line = 10 }
     -- heat total 966.7
-    ∷ record { file = changed 257 (57 ∷ []); number = 23; line = 7 }
+    ∷ record { file = changed QuarterTotals 39 (57 ∷ []); number = 23; line = 7 }
     ∷ []
 
-unfoldable pub tried : List Damage → Bool
-tried [] = true
-tried (d ∷ ds) = same (numbersOf (checked (d .file))) (refusal (d .number) (d .line)) && tried ds
+unfoldable pub allNamed : List Damage → Bool
+allNamed [] = true
+allNamed (d ∷ ds) = same (numbersOf (checked (d .file))) (refusal (d .number) (d .line)) && allNamed ds
 
-pub damages-named : tried damages ≡ true
-unfolding put workedHour tried over meets totalOf all same columns digitsFrom wholeOf decimalsBehind fixedOf fieldOf numberOf digitsOf leapYear daysInMonth inQuarter daysBefore hourOfQuarter quarterHour numberHour fieldHour stampHour passesTest totalsOf meanOf quarterOf quarterTotals onto lines last typeIs shapeFault stackFault commonFault within fieldFault valuesFault digitsIn facilityFault facilityLine risingFault hourFault hourNumber hourLine dateFault dueFault runOf runsOf walkDue walkLater walkHours walk readOf linesWith recordsOf valueOn hourAt hoursFrom hoursOf totalsIn judgedFigures judgedHours comparedTotals judged afterReading checked
-damages-named = refl
+-- what the check answers to the worked hour, to the empty quarter and to the damaged files
+pub answers : (numbersOf (checked workedHour) ≡ 1 ∷ 2 ∷ 684 ∷ 6667 ∷ 358 ∷ [])
+    × (numbersOf (checked emptyQuarter) ≡ 0 ∷ 0 ∷ 0 ∷ 0 ∷ 0 ∷ [])
+    × (allNamed damages ≡ true)
+unfolding workedHour emptyQuarter allNamed put
+    over meets totalOf all same columns digitsFrom wholeOf decimalsBehind fixedOf fieldOf numberOf digitsOf leapYear daysInMonth inQuarter daysBefore
+    hourOfQuarter quarterHour numberHour fieldHour stampHour passesTest totalsOf meanOf quarterOf quarterTotals onto lines last typeIs shapeFault
+    stackFault commonFault within fieldFault valuesFault digitsIn facilityFault facilityLine risingFault hourFault hourNumber hourLine dateFault
+    dueFault runOf runsOf walkDue walkLater walkHours walk readOf linesWith recordsOf valueOn hourAt ranked hoursOf totalsIn judgedFigures
+    judgedHours firstDiffering comparedTotals judged afterReading checked
+answers = (refl, refl, refl)

@@ -5,16 +5,19 @@ use mathlib.Core.List.{List, [], _∷_}
 use mathlib.Core.Bool.{Bool, true, false}
 use mathlib.Core.Logic.{_⊎_, inl, inr, ⊎-elim}
 use native.Mathlib.Omega.{arith}
-use native.Mathlib.Nat.{le-refl}
-use lib.Dec.{eqb}
+use lib.Dec.{eqb, lit≤}
 use borrow.Author.Tests.{eqb-true, eq-eqb}
+use Rattle.exact.specs.Logic.{ranked, All}
 use Rattle.formulas.specs.Formulas.{passesTest}
 use Rattle.formulas.specs.declared.hour.Hour.{Hour}
 use Rattle.formulas.specs.declared.hour.Quantity.{Quantity}
 use Rattle.formulas.specs.declared.hour.Quantity.the-variants.{Heat, So2, Nox, Co2}
 use Rattle.totals.specs.declared.Quarter.{Quarter}
-use Rattle.reading.specs.Recorded.{hourAt, hoursFrom}
-use Rattle.checker.specs.Checked.{refusedAt, quantities, quantityAt, numberFor, lineFor, judgedFigures, judgedHours, comparedTotals}
+use Rattle.lines.specs.LineFaults.{_orElse_, unless}
+use Rattle.lines.specs.FaultLaws.{or-zero, unless-none}
+use Rattle.reading.specs.Recorded.{hourAt}
+use Rattle.checker.specs.Checked.{refusedAt, quantities, quantityAt, numberFor, lineFor, judgedFigures}
+use Rattle.checker.specs.Checked.{judgedHours, Stated, statedTotals, firstDiffering, totalsFault, verdict, comparedTotals}
 use Rattle.checker.specs.declared.Answer.{Answer}
 use Rattle.checker.specs.declared.Answer.the-variants.{Accepted, Refused}
 
@@ -38,8 +41,7 @@ unfoldable pub Passes : Hour → Type 0
 Passes h = (q : Quantity) → passesTest q h ≡ true
 
 abbrev pub AllPass : List Hour → Type 0
-AllPass [] = Unit {0}
-AllPass (h ∷ hs) = Passes h × AllPass hs
+AllPass hs = All Passes hs
 
 abbrev PassIn : List Quantity → Hour → Type 0
 PassIn [] h = Unit {0}
@@ -83,14 +85,14 @@ hours-pass file k [] rest p = refl
 hours-pass file k (h ∷ hs) rest p = figures-pass quantities file k h (judgedHours file (suc k) hs rest) (p .0) ∙ hours-pass file (suc k) hs rest (p .1)
 
 -- the number of a figure's refusal names the quantity
-named : (q : Quantity) → quantityAt (numberFor q - 11) ≡ q
-named Heat = refl
-named So2 = refl
-named Nox = refl
-named Co2 = refl
+quantity-named : (q : Quantity) → quantityAt (numberFor q - 11) ≡ q
+quantity-named Heat = refl
+quantity-named So2 = refl
+quantity-named Nox = refl
+quantity-named Co2 = refl
 
 same-quantity : (p q : Quantity) → numberFor p ≡ numberFor q → p ≡ q
-same-quantity p q e = sym (named p) ∙ ap (λ (n : ℕ). quantityAt (n - 11)) e ∙ named q
+same-quantity p q e = sym (quantity-named p) ∙ ap (λ (n : ℕ). quantityAt (n - 11)) e ∙ quantity-named q
 
 figures-refused : (qs : List Quantity) (file : List ℕ) (k : ℕ) (h : Hour) (rest : Answer) (q : Quantity) (line : ℕ) →
     judgedFigures qs file k h rest ≡ refusedAt (numberFor q) line →
@@ -118,9 +120,9 @@ pub record Failing (file : List ℕ) (k : ℕ) (q : Quantity) (line : ℕ) : Typ
   pub fails : passesTest q (hourAt file hour) ≡ false
 
 pub hours-refused : (file : List ℕ) (k left : ℕ) (rest : Answer) (q : Quantity) (line : ℕ) →
-    judgedHours file k (hoursFrom file k left) rest ≡ refusedAt (numberFor q) line →
+    judgedHours file k (ranked (hourAt file) k left) rest ≡ refusedAt (numberFor q) line →
     Failing file (k + left) q line ⊎ (rest ≡ refusedAt (numberFor q) line)
-unfolding judgedHours hoursFrom
+unfolding judgedHours ranked
 hours-refused file k zero rest q line e = inr e
 hours-refused file k (suc left) rest q line e =
     ⊎-elim
@@ -130,7 +132,7 @@ hours-refused file k (suc left) rest q line e =
     (λ f. inl (record { hour = f .hour; exists = omega (arith, f .exists); own = f .own; fails = f .fails }))
     (λ z. inr z)
     (hours-refused file (suc k) left rest q line w))
-    (figures-refused quantities file k (hourAt file k) (judgedHours file (suc k) (hoursFrom file (suc k) left) rest) q line e)
+    (figures-refused quantities file k (hourAt file k) (judgedHours file (suc k) (ranked (hourAt file) (suc k) left) rest) q line e)
 
 number-low : (q : Quantity) → numberFor q ≤ 14
 number-low Heat = omega arith
@@ -138,67 +140,62 @@ number-low So2 = omega arith
 number-low Nox = omega arith
 number-low Co2 = omega arith
 
--- the totals: accepted where all four agree, with the totals formed; never refused with a figure's number
-pub record Agree (f s : Quarter) : Type 0 where
-  pub so2 : f .so2 ≡ s .so2
-  pub co2 : f .co2 ≡ s .co2
-  pub heat : f .heat ≡ s .heat
-  pub nox : f .nox ≡ s .nox
+-- the totals: accepted where all agree, with the totals formed; never refused with a figure's number
+abbrev pub Agree : Quarter → Quarter → Type 0
+Agree f s = All (λ (t : Stated). t .amount f ≡ t .amount s) statedTotals
 
--- what four tests, one for each total, decide
-abbrev decided : ℕ → Quarter → (a b c d : Bool) → Answer
-decided line f a b c d =
-    elim a [
-      | false ↦ refusedAt 21 line
-      | true ↦
-          elim b [ false ↦ refusedAt 22 line | true ↦ elim c [ false ↦ refusedAt 23 line | true ↦ elim d [ false ↦ refusedAt 24 line | true ↦ Accepted f ] ] ]
-    ]
+numbers-high : All (λ (t : Stated). 15 ≤ t .number) statedTotals
+numbers-high = (lit≤ tt, (lit≤ tt, (lit≤ tt, (lit≤ tt, tt))))
 
-module _ (line : ℕ) (f s : Quarter) where
-  pub totals-accepted : (r : Quarter) → comparedTotals line f s ≡ Accepted r → (f ≡ r) × Agree f s
-  unfolding comparedTotals
-  totals-accepted r e = go (eqb (f .so2) (s .so2)) refl (eqb (f .co2) (s .co2)) refl (eqb (f .heat) (s .heat)) refl (eqb (f .nox) (s .nox)) refl e
+pub all-agree : (ts : List Stated) {f s : Quarter} → f ≡ s → All (λ (t : Stated). t .amount f ≡ t .amount s) ts
+all-agree [] e = tt
+all-agree (t ∷ ts) e = (ap (t .amount) e, all-agree ts e)
+
+module _ (f s : Quarter) where
+  -- no fault, exactly where all totals agree
+  no-fault : (ts : List Stated) → All (λ (t : Stated). 15 ≤ t .number) ts → firstDiffering ts f s ≡ 0 → All (λ (t : Stated). t .amount f ≡ t .amount s) ts
+  unfolding firstDiffering
+  no-fault [] h e = tt
+  no-fault (t ∷ ts) h e =
+      let z = or-zero (unless (eqb (t .amount f) (t .amount s)) (t .number)) _ e in
+      (eqb-true _ _ (unless-none _ (t .number) (omega (arith, h .0)) (z .0)), no-fault ts (h .1) (z .1))
+
+  agree-fault : (ts : List Stated) → All (λ (t : Stated). t .amount f ≡ t .amount s) ts → firstDiffering ts f s ≡ 0
+  unfolding firstDiffering
+  agree-fault [] a = refl
+  agree-fault (t ∷ ts) a = rw (eq-eqb (t .amount f) (t .amount s) (a .0)) (agree-fault ts (a .1))
+
+  -- a fault of the totals is not a figure's
+  fault-high : (ts : List Stated) → All (λ (t : Stated). 15 ≤ t .number) ts → 1 ≤ firstDiffering ts f s → 15 ≤ firstDiffering ts f s
+  unfolding firstDiffering
+  fault-high [] h l = absurd (omega arith)
+  fault-high (t ∷ ts) h l = high (eqb (t .amount f) (t .amount s)) (t .number) (firstDiffering ts f s) (h .0) (fault-high ts (h .1)) l
     where
-      go : (a : Bool) → eqb (f .so2) (s .so2) ≡ a → (b : Bool) → eqb (f .co2) (s .co2) ≡ b → (c : Bool) → eqb (f .heat) (s .heat) ≡ c → (d : Bool) →
-          eqb (f .nox) (s .nox) ≡ d →
-          decided line f a b c d ≡ Accepted r →
-          (f ≡ r) × Agree f s
-      go false p b q c t d u w = never-accepted 21 line r w
-      go true p false q c t d u w = never-accepted 22 line r w
-      go true p true q false t d u w = never-accepted 23 line r w
-      go true p true q true t false u w = never-accepted 24 line r w
-      go true p true q true t true u w = (cc, record { so2 = eqb-true _ _ p; co2 = eqb-true _ _ q; heat = eqb-true _ _ t; nox = eqb-true _ _ u })
+      high : (b : Bool) (n rest : ℕ) → 15 ≤ n → (1 ≤ rest → 15 ≤ rest) → 1 ≤ (unless b n orElse rest) → 15 ≤ (unless b n orElse rest)
+      high true n rest k g = g
+      high false zero rest k g = absurd (omega arith)
+      high false (suc n) rest k g = λ x. k
 
-  pub totals-agree : Agree f s → comparedTotals line f s ≡ Accepted f
-  unfolding comparedTotals
-  totals-agree a =
-      go _ (eq-eqb (f .so2) (s .so2) (a .so2)) _ (eq-eqb (f .co2) (s .co2) (a .co2)) _ (eq-eqb (f .heat) (s .heat) (a .heat)) _
-      (eq-eqb (f .nox) (s .nox) (a .nox))
-    where
-      no : {A : Type 0} → false ≡ true → A
-      no e = absurd (let z : _≡_ {A = ℕ} 0 1 = cc in omega arith)
+  module _ (line : ℕ) where
+    pub totals-accepted : (r : Quarter) → comparedTotals line f s ≡ Accepted r → (f ≡ r) × Agree f s
+    unfolding comparedTotals
+    totals-accepted r e = go (totalsFault f s) refl e
+      where
+        go : (n : ℕ) → totalsFault f s ≡ n → verdict n line f ≡ Accepted r → (f ≡ r) × Agree f s
+        go zero z w = (cc, no-fault statedTotals numbers-high z)
+        go (suc n) z w = never-accepted (suc n) line r w
 
-      go : (a : Bool) → a ≡ true → (b : Bool) → b ≡ true → (c : Bool) → c ≡ true → (d : Bool) → d ≡ true →
-          decided line f a b c d ≡ Accepted f
-      go false p b q c t d u = no p
-      go true p false q c t d u = no q
-      go true p true q false t d u = no t
-      go true p true q true t false u = no u
-      go true p true q true t true u = refl
+    pub totals-agree : Agree f s → comparedTotals line f s ≡ Accepted f
+    unfolding comparedTotals
+    totals-agree a = ap (λ (n : ℕ). verdict n line f) (agree-fault statedTotals a)
 
-  pub totals-refused : (q : Quantity) (at : ℕ) → comparedTotals line f s ≡ refusedAt (numberFor q) at → ⊥
-  unfolding comparedTotals
-  totals-refused q at e = go (eqb (f .so2) (s .so2)) (eqb (f .co2) (s .co2)) (eqb (f .heat) (s .heat)) (eqb (f .nox) (s .nox)) e
-    where
-      high : (number : ℕ) → 15 ≤ number → refusedAt number line ≡ refusedAt (numberFor q) at → ⊥
-      high number h w = omega (arith, number-low q, same-number number line (numberFor q) at w .0)
-
-      go : (a b c d : Bool) → decided line f a b c d ≡ refusedAt (numberFor q) at → ⊥
-      go false b c d w = high 21 (omega arith) w
-      go true false c d w = high 22 (omega arith) w
-      go true true false d w = high 23 (omega arith) w
-      go true true true false w = high 24 (omega arith) w
-      go true true true true w = never-accepted (numberFor q) at f (sym w)
+    pub totals-refused : (q : Quantity) (at : ℕ) → comparedTotals line f s ≡ refusedAt (numberFor q) at → ⊥
+    unfolding comparedTotals
+    totals-refused q at e = go (totalsFault f s) (fault-high statedTotals numbers-high) e
+      where
+        go : (n : ℕ) → (1 ≤ n → 15 ≤ n) → verdict n line f ≡ refusedAt (numberFor q) at → ⊥
+        go zero h w = never-accepted (numberFor q) at f (sym w)
+        go (suc n) h w = omega (arith, number-low q, same-number (suc n) line (numberFor q) at w .0, h (omega arith))
 
 -- a refusal with at most 10 is not that of a figure
 pub number-high : (q : Quantity) (number at line : ℕ) → refusedAt number at ≡ refusedAt (numberFor q) line → number ≤ 10 → ⊥

@@ -1,14 +1,14 @@
 -- The promise holds of what the check answers to every file. Promise.antt states it.
-use Prim.Native.Nat.{ℕ, zero, suc, _+_, _≤_, _<_}
+use Prim.Native.Nat.{ℕ, _+_}
 use mathlib.Core.Path.{_≡_, refl, sym, ap, subst₂, _∙_}
 use mathlib.Core.List.{List, [], _∷_}
-use mathlib.Core.Bool.{true, false}
 use mathlib.Core.Logic.{_⊎_, ⊎-elim}
 use native.Mathlib.Omega.{arith}
 use lib.ListN.{length, getD}
+use Rattle.exact.specs.Logic.{ranked-length, ranked-all}
 use Rattle.exact.specs.Fraction.{Near}
-use Rattle.formulas.specs.Hour.{HourWithin, HoursWithin, Unrounded, Entry, entryOf}
-use Rattle.formulas.specs.Formulas.{LiesBehind, passesTest}
+use Rattle.formulas.specs.Hour.{HourWithin, HoursWithin, Unrounded}
+use Rattle.formulas.specs.Formulas.{Pair, pairOf}
 use Rattle.formulas.specs.FormulaLaws.{test-exact}
 use Rattle.totals.specs.Totals.{quarterTotals}
 use Rattle.totals.specs.TotalLaws.{quarter-hours}
@@ -17,41 +17,33 @@ use Rattle.formulas.specs.declared.hour.Hour.{Hour}
 use Rattle.formulas.specs.declared.hour.Quantity.{Quantity}
 use Rattle.totals.specs.declared.Quarter.{Quarter}
 use Rattle.reading.specs.Reading.{readOf}
-use Rattle.reading.specs.Recorded.{recordAt, hourCount, hourAt, hoursFrom, hoursOf, totalsIn}
+use Rattle.reading.specs.Recorded.{recordAt, hourCount, hourAt, hoursOf, totalsIn}
 use Rattle.reading.specs.CleanFile.{CleanFile, clean-file, clean-hour}
 use Rattle.reading.specs.RecordLaws.{hours-standing}
 use Rattle.reading.specs.RefusalLaws.{refused-number}
 use Rattle.reading.specs.declared.Report.{Report}
-use Rattle.reading.specs.declared.Refusal.{Refusal}
 use Rattle.reading.specs.declared.Reading.{Reading}
 use Rattle.reading.specs.declared.Reading.the-variants.{Clean, Refused as Stopped}
-use Rattle.checker.specs.Checked.{acceptance, refusal, numbersOf, refusedAt, numberFor, comparedTotals, judgedHours, judged, afterReading, checked}
+use Rattle.checker.specs.Checked.{statedTotals, acceptance, refusal, numbersOf, refusedAt, numberFor, comparedTotals, judged, afterReading, checked}
 use Rattle.checker.specs.Promise.{LieBehind, SetsBehind, HonestlyRounded, exactAmount, reported, allowed, FailsAt, Promise}
-use Rattle.checker.specs.JudgedLaws.{never-accepted, Passes, AllPass, hours-accepted, hours-pass, Failing, hours-refused, Agree, totals-accepted, totals-agree, totals-refused, number-high}
+use Rattle.checker.specs.JudgedLaws.{never-accepted, Passes, AllPass, hours-accepted, hours-pass, Failing, hours-refused}
+use Rattle.checker.specs.JudgedLaws.{Agree, all-agree, totals-accepted, totals-agree, totals-refused, number-high}
 use Rattle.checker.specs.BoundLaws.{amount-bound}
 use Rattle.checker.specs.declared.Answer.{Answer}
 use Rattle.checker.specs.declared.Answer.the-variants.{Accepted, Refused}
 
-hours-length : (file : List ℕ) (k left : ℕ) → length (hoursFrom file k left) ≡ left
-unfolding hoursFrom
-hours-length file k zero = refl
-hours-length file k (suc left) = ap suc (hours-length file (suc k) left)
-
 pub hours-count : (file : List ℕ) → length (hoursOf file) ≡ hourCount file
 unfolding hoursOf
-hours-count file = hours-length file 0 (hourCount file)
-
-hours-within : (file : List ℕ) (n k left : ℕ) → ((j : ℕ) → j < n → HourWithin (hourAt file j)) → k + left ≤ n → HoursWithin (hoursFrom file k left)
-unfolding hoursFrom
-hours-within file n k zero w h = tt
-hours-within file n k (suc left) w h = (w k (omega arith), hours-within file n (suc k) left w (omega arith))
+hours-count file = ranked-length (hourAt file) 0 (hourCount file)
 
 all-within : (file : List ℕ) (r : Report) → CleanFile file r → HoursWithin (hoursOf file)
 unfolding hoursOf
-all-within file r c = hours-within file (r .shape .hours) 0 (hourCount file) (clean-hour file r c) (omega (arith, hours-standing file (r .shape) (c .standing)))
+all-within file r c =
+    ranked-all HourWithin (hourAt file) (r .shape .hours) 0 (hourCount file) (clean-hour file r c)
+    (omega (arith, hours-standing file (r .shape) (c .standing)))
 
 -- behind figures that pass lie readings, and figures behind which readings lie pass
-pass-behind : (q : Quantity) (hs : List Hour) → HoursWithin hs → AllPass hs → (es : List (Entry q)) × LieBehind q hs es
+pass-behind : (q : Quantity) (hs : List Hour) → HoursWithin hs → AllPass hs → (es : List Pair) × LieBehind q hs es
 unfolding Passes
 pass-behind q [] w p = ([], tt)
 pass-behind q (h ∷ hs) w p =
@@ -64,7 +56,7 @@ unfolding Passes
 behind-pass [] [] w b = tt
 behind-pass [] (s ∷ ss) w b = absurd b
 behind-pass (h ∷ hs) [] w b = absurd b
-behind-pass (h ∷ hs) (s ∷ ss) w b = ((λ q. test-exact q h (w .0 .readings) .1 (entryOf q s, b .0 q)), behind-pass hs ss (w .1) (b .1))
+behind-pass (h ∷ hs) (s ∷ ss) w b = ((λ q. test-exact q h (w .0 .readings) .1 (pairOf q s, b .0 q)), behind-pass hs ss (w .1) (b .1))
 
 -- what an acceptance says
 record Facts (file : List ℕ) (r : Quarter) : Type 0 where
@@ -85,7 +77,7 @@ accepted-facts file r e = go (readOf file) refl e
     go (Clean report) c w =
         let line = recordAt file QuarterTotals 0 .number in
         let h = hours-accepted file 0 (hoursOf file) (comparedTotals line (quarterTotals (hoursOf file)) (totalsIn file)) r w in
-        let t = totals-accepted line (quarterTotals (hoursOf file)) (totalsIn file) r (h .1) in
+        let t = totals-accepted (quarterTotals (hoursOf file)) (totalsIn file) line r (h .1) in
         record { report = report; clean = c; pass = h .0; formed = t .0; agree = t .1 }
     go (Stopped x) c w = never-accepted (x .number) (x .line) r w
 
@@ -95,19 +87,12 @@ unfolding checked afterReading judged
 honest-checked file sets h =
     let hs = hoursOf file in
     let p = behind-pass hs sets (all-within file (h .report) (clean-file file (h .report) (h .clean))) (h .behind) in
-    let t = h .totals in
-    let a : Agree (quarterTotals hs) (totalsIn file) =
-    record {
-      so2 = ap (λ (y : Quarter). y .so2) (sym t);
-      co2 = ap (λ (y : Quarter). y .co2) (sym t);
-      heat = ap (λ (y : Quarter). y .heat) (sym t);
-      nox = ap
-          (λ (y : Quarter). y .nox) (sym t);
-    } in
-    ap (afterReading file) (h .clean) ∙ hours-pass file 0 hs _ p ∙ totals-agree (recordAt file QuarterTotals 0 .number) (quarterTotals hs) (totalsIn file) a
+    ap (afterReading file) (h .clean)
+    ∙ hours-pass file 0 hs _ p
+    ∙ totals-agree (quarterTotals hs) (totalsIn file) (recordAt file QuarterTotals 0 .number) (all-agree statedTotals (sym (h .totals)))
 
 same-quarter : (f s : Quarter) → f .hours ≡ s .hours → Agree f s → f ≡ s
-same-quarter f s h a = λ i. record { hours = h i; so2 = a .so2 i; co2 = a .co2 i; heat = a .heat i; nox = a .nox i }
+same-quarter f s h a = λ i. record { hours = h i; so2 = a .0 i; co2 = a .1 .0 i; heat = a .1 .1 .0 i; nox = a .1 .1 .1 .0 i }
 
 refused-rightly : (file : List ℕ) (q : Quantity) (line : ℕ) → checked file ≡ refusedAt (numberFor q) line → FailsAt file q line
 unfolding checked afterReading judged hoursOf
@@ -130,20 +115,20 @@ refused-rightly file q line e = go (readOf file) refl e
               λ e b. let t = test-exact q (hourAt file (g .hour)) (clean-hour file report f (g .hour) (omega (arith, g .exists)) .readings) .1
               (e, b) in let l = g .fails in let z : _≡_ {A = ℕ} 0 1 = cc in omega arith;
         })
-        (λ z. absurd (totals-refused (recordAt file QuarterTotals 0 .number) (quarterTotals (hoursOf file)) (totalsIn file) q line z))
+        (λ z. absurd (totals-refused (quarterTotals (hoursOf file)) (totalsIn file) (recordAt file QuarterTotals 0 .number) q line z))
         (hours-refused file 0 (hourCount file) (comparedTotals (recordAt file QuarterTotals 0 .number) (quarterTotals (hoursOf file)) (totalsIn file)) q line w)
 
 module _ (file : List ℕ) (r : Quarter) (e : checked file ≡ Accepted r) where
   accepted-within : HoursWithin (hoursOf file)
   accepted-within = let f = accepted-facts file r e in all-within file (f .report) (clean-file file (f .report) (f .clean))
 
-  accepted-behind : (q : Quantity) → (es : List (Entry q)) × LieBehind q (hoursOf file) es
+  accepted-behind : (q : Quantity) → (es : List Pair) × LieBehind q (hoursOf file) es
   accepted-behind q = pass-behind q (hoursOf file) accepted-within (accepted-facts file r e .pass)
 
   accepted-count : r .hours ≡ hourCount file
   accepted-count = ap (λ (y : Quarter). y .hours) (sym (accepted-facts file r e .formed)) ∙ formed-hours file
 
-  accepted-bounds : (q : Quantity) (es : List (Entry q)) → LieBehind q (hoursOf file) es →
+  accepted-bounds : (q : Quantity) (es : List Pair) → LieBehind q (hoursOf file) es →
       Near (exactAmount q (hoursOf file) es) (reported q r) (allowed q (r .hours))
   accepted-bounds q es b =
       subst₂ (λ (x : Quarter) (n : ℕ). Near (exactAmount q (hoursOf file) es) (reported q x) (allowed q n)) (accepted-facts file r e .formed)
@@ -158,7 +143,7 @@ module _ (file : List ℕ) (r : Quarter) (e : checked file ≡ Accepted r) where
 accepts : (answer : Answer) (r : Quarter) → numbersOf answer ≡ acceptance r → answer ≡ Accepted r
 accepts (Accepted q) r e =
     let at : (k : ℕ) → getD (acceptance q) k 0 ≡ getD (acceptance r) k 0 = λ k. ap (λ (l : List ℕ). getD l k 0) e in
-    λ i. Accepted (record { hours = at 0 i; so2 = at 1 i; co2 = at 2 i; heat = at 3 i; nox = at 4 i })
+    ap Accepted (same-quarter q r (at 0) (at 1, (at 2, (at 3, (at 4, tt)))))
 accepts (Refused x) r e = absurd (let l = ap length e in omega arith)
 
 refuses : (answer : Answer) (number line : ℕ) → numbersOf answer ≡ refusal number line → answer ≡ refusedAt number line

@@ -7,8 +7,10 @@ use reading::Refusal;
 use totals::Quarter;
 use totals::Totals;
 ghost use mathlib.Core.Path.{_≡_};
-ghost use Prim.Native.Nat.{_<_, _≤_};
-ghost use Rattle.checker.specs.Checked.{refusedAt, quantityAt, typeFor, comparedTotals, judged, checked};
+ghost use Prim.Native.Nat.{_<_};
+ghost use lib.Dec.{eqb};
+ghost use Rattle.lines.specs.LineFaults.{_orElse_, unless};
+ghost use Rattle.checker.specs.Checked.{refusedAt, quantityAt, typeFor, totalsFault, comparedTotals, judged, checked};
 ghost use Rattle.checker.specs.Promise.{Promise};
 ghost use Rattle.checker.specs.Judging.{Judgeable};
 
@@ -48,23 +50,38 @@ fn refused(number: u64, line: usize) -> Answer
     Answer::Refused(Refusal { number, line })
 }
 
+// The fault found before a total, or else its number where what was formed differs from what is stated.
+fn first_fault(found: u64, number: u64, formed: u64, stated: u64) -> u64
+    ensures { λ r. ⌜ r ≡ found orElse unless (eqb formed stated) number ⌝ }
+{
+    if found != 0 {
+        return found;
+    }
+    if formed != stated {
+        return number;
+    }
+    0
+}
+
+// The first total that differs from the one stated on line 301, by its number; 0 where none does.
+fn totals_fault(formed: Quarter, stated: Quarter) -> u64
+    ensures { λ r. ⌜ r ≡ totalsFault formed stated ⌝ }
+{
+    let so2 = first_fault(0, 21, formed.so2, stated.so2);
+    let co2 = first_fault(so2, 22, formed.co2, stated.co2);
+    let heat = first_fault(co2, 23, formed.heat, stated.heat);
+    first_fault(heat, 24, formed.nox, stated.nox)
+}
+
 // The totals formed against those stated on line 301.
 fn compare(line: usize, formed: Quarter, stated: Quarter) -> Answer
     ensures { λ r. ⌜ r ≡ comparedTotals line formed stated ⌝ }
 {
-    if formed.so2 != stated.so2 {
-        return refused(21, line);
+    let number = totals_fault(formed, stated);
+    if number == 0 {
+        return Answer::Accepted(formed);
     }
-    if formed.co2 != stated.co2 {
-        return refused(22, line);
-    }
-    if formed.heat != stated.heat {
-        return refused(23, line);
-    }
-    if formed.nox != stated.nox {
-        return refused(24, line);
-    }
-    Answer::Accepted(formed)
+    refused(number, line)
 }
 
 // The hours of a file of a shape whose lines are right, and its totals. The hour pass is abandoned at the first figure

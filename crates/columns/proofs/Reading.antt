@@ -9,8 +9,9 @@ use native.Mathlib.Numerals.{add-one}
 use lib.Dec.{leb, eqb, lit<}
 use lib.Pow.{pow-add}
 use lib.ListN.{length, take, drop, getD, length-drop, drop-of-length-le}
-use lib.Seq.{drop-cons, take-all, length-take-le}
+use lib.Seq.{drop-cons, length-take-le}
 use borrow.Author.Tests.{le-leb, lt-leb, eq-eqb, ne-eqb}
+use Rattle.columns.specs.ColumnsLaws.{part-end}
 use Rattle.columns.specs.Bytes.{isBlank, isDigit, isPrintable, all, same}
 use Rattle.columns.specs.Number.{pointIn, digitsFrom, wholeOf, decimalsBehind, fixedOf}
 use Rattle.columns.specs.Columns.{columns}
@@ -19,8 +20,8 @@ use Rattle.columns.specs.BytesLaws.{same-eq}
 use Rattle.columns.specs.declared.Field.the-variants.{Blank, Malformed, Number}
 
 -- a byte and a range
-pub within : (low high b : ℕ) → low ≤ b → b ≤ high → leb low b && leb b high ≡ true
-within low high b h k = rw (le-leb low b h) (le-leb b high k)
+pub leb-both : (low high b : ℕ) → low ≤ b → b ≤ high → leb low b && leb b high ≡ true
+leb-both low high b h k = rw (le-leb low b h) (le-leb b high k)
 
 pub below : (low high b : ℕ) → b < low → leb low b && leb b high ≡ false
 below low high b h = rw (lt-leb low b h)
@@ -122,10 +123,6 @@ pub part-columns : (start width : ℕ) (l : List ℕ) → take (start - 1 + widt
 unfolding columns
 part-columns start width l = rw (add-sub-cancel-left (start - 1) width)
 
--- a part to the end
-pub part-end : (i : ℕ) (l : List ℕ) → take (length l - i) (drop i l) ≡ drop i l
-part-end i l = take-all (length l - i) (drop i l) (rw length-drop (omega arith))
-
 ten : 0 < 10
 ten = lit< tt
 
@@ -143,7 +140,8 @@ module _ (l : List ℕ) (d : ℕ) (inside : d < length l) where
       let e : length l - suc d ≡ pointIn l d = omega arith in
       rw e
 
-  pub fixed-number : (k : ℕ) → wholeOf (take (pointIn l d) l) ≡ Number k → getD l (pointIn l d) 0 ≡ 46 → fixedOf d l ≡ digitsFrom k (take (length l - (pointIn l d + 1)) (drop (pointIn l d + 1) l))
+  pub fixed-number : (k : ℕ) → wholeOf (take (pointIn l d) l) ≡ Number k → getD l (pointIn l d) 0 ≡ 46 →
+      fixedOf d l ≡ digitsFrom k (take (length l - (pointIn l d + 1)) (drop (pointIn l d + 1) l))
   unfolding decimalsBehind
   fixed-number k e p =
       fixed-parts ∙ rw (e, behind-point, eq-eqb (getD l (pointIn l d) 0) 46 p, decimalsBehind, part-end (pointIn l d + 1) l)
@@ -163,7 +161,8 @@ module _ (l : List ℕ) (d : ℕ) (inside : d < length l) where
       let q : all isBlank (drop (pointIn l d) l) ≡ t = rw part-end at p in
       fixed-parts ∙ rw (e, q, decimalsBehind)
 
-  pub fixed-room : (k : ℕ) → length l ≤ 18 → wholeOf (take (pointIn l d) l) ≡ Number k → (k + 1) * 10 ^ length (take (length l - (pointIn l d + 1)) (drop (pointIn l d + 1) l)) ≤ 10 ^ 18
+  pub fixed-room : (k : ℕ) → length l ≤ 18 → wholeOf (take (pointIn l d) l) ≡ Number k →
+      (k + 1) * 10 ^ length (take (length l - (pointIn l d + 1)) (drop (pointIn l d + 1) l)) ≤ 10 ^ 18
   fixed-room k h e =
       let f : length (take (pointIn l d) l) ≡ pointIn l d = length-take-le (pointIn l d) l (omega arith) in
       let g : length (take (length l - (pointIn l d + 1)) (drop (pointIn l d + 1) l)) ≡ d = rw (part-end (pointIn l d + 1) l, length-drop) (omega arith) in

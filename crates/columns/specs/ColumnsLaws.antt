@@ -6,7 +6,7 @@ use mathlib.Core.Bool.{Bool, true}
 use native.Mathlib.Omega.{arith}
 use native.Mathlib.Nat.{add-zero}
 use lib.ListN.{length, take, drop, getD, length-append, length-drop, take-append-drop, List·getD-append}
-use lib.Seq.{length-take-le, take-at, drop-at, take-append-le, drop-append-le, drop-append-add, drop-drop, getD-take, getD-drop}
+use lib.Seq.{take-all, length-take-le, take-at, drop-at, take-append-le, drop-append-le, drop-append-add, drop-drop, getD-take, getD-drop}
 use Rattle.columns.specs.Bytes.{all}
 use Rattle.columns.specs.Columns.{columns, put}
 use Rattle.columns.specs.BytesLaws.{all-append, all-take, all-drop}
@@ -16,9 +16,9 @@ pub columns-length : (start width : ℕ) (l : List ℕ) → start - 1 + width �
 unfolding columns
 columns-length start width l h = length-take-le width (drop (start - 1) l) (simp length-drop (omega arith))
 
-pub columns-all : (p : ℕ → Bool) (start width : ℕ) (l : List ℕ) → all p l ≡ true → all p (columns start width l) ≡ true
-unfolding columns
-columns-all p start width l h = all-take p width (drop (start - 1) l) (all-drop p (start - 1) l h)
+-- a part to the end
+pub part-end : (i : ℕ) (l : List ℕ) → take (length l - i) (drop i l) ≡ drop i l
+part-end i l = take-all (length l - i) (drop i l) (rw length-drop (omega arith))
 
 pub put-all : (p : ℕ → Bool) (start : ℕ) (bs l : List ℕ) → all p bs ≡ true → all p l ≡ true → all p (put start bs l) ≡ true
 unfolding put
@@ -27,8 +27,8 @@ put-all p start bs l h k =
     (all-append p bs (drop (start - 1 + length bs) l) h (all-drop p (start - 1 + length bs) l k))
 
 -- what stands in front of place k, whatever follows
-front : (k a w : ℕ) (l rest : List ℕ) → a + w ≤ k → k ≤ length l → take w (drop a (take k l ++ rest)) ≡ take w (drop a (take k l))
-front k a w l rest h m =
+front-columns : (k a w : ℕ) (l rest : List ℕ) → a + w ≤ k → k ≤ length l → take w (drop a (take k l ++ rest)) ≡ take w (drop a (take k l))
+front-columns k a w l rest h m =
     let e : length (take k l) ≡ k = length-take-le k l m in
     let p : a ≤ length (take k l) = omega arith in
     let q : w ≤ length (drop a (take k l)) = rw length-drop (omega arith) in
@@ -56,8 +56,8 @@ module _ (start : ℕ) (bs l : List ℕ) (fits : start - 1 + length bs ≤ lengt
   pub columns-before : (start′ width : ℕ) → start′ - 1 + width ≤ start - 1 → columns start′ width (put start bs l) ≡ columns start′ width l
   unfolding columns put
   columns-before start′ width h =
-      front (start - 1) (start′ - 1) width l (bs ++ drop (start - 1 + length bs) l) h (omega arith)
-      ∙ sym (front (start - 1) (start′ - 1) width l (drop (start - 1) l) h (omega arith))
+      front-columns (start - 1) (start′ - 1) width l (bs ++ drop (start - 1 + length bs) l) h (omega arith)
+      ∙ sym (front-columns (start - 1) (start′ - 1) width l (drop (start - 1) l) h (omega arith))
       ∙ ap (λ (x : List ℕ). take width (drop (start′ - 1) x)) (take-append-drop (start - 1) l)
 
   drop-behind : (i : ℕ) → start - 1 + length bs ≤ i → drop i (put start bs l) ≡ drop i l
@@ -71,11 +71,6 @@ module _ (start : ℕ) (bs l : List ℕ) (fits : start - 1 + length bs ≤ lengt
       ∙ drop-append-add (take (start - 1) l ++ bs) (drop n l) (i - n)
       ∙ drop-drop (i - n) n l
       ∙ ap (λ (k : ℕ). drop k l) f
-
-  -- columns that lie wholly behind
-  pub columns-behind : (start′ width : ℕ) → start - 1 + length bs ≤ start′ - 1 → columns start′ width (put start bs l) ≡ columns start′ width l
-  unfolding columns
-  columns-behind start′ width h = ap (take width) (drop-behind (start′ - 1) h)
 
   -- byte by byte
   pub put-before : (i : ℕ) → i < start - 1 → getD (put start bs l) i 0 ≡ getD l i 0
@@ -115,33 +110,3 @@ module _ (start : ℕ) (bs l : List ℕ) (fits : start - 1 + length bs ≤ lengt
 -- bytes of a known width are read back from where they were put
 pub columns-back : (start width : ℕ) (bs l : List ℕ) → length bs ≡ width → start - 1 + width ≤ length l → columns start width (put start bs l) ≡ bs
 columns-back start width bs l e h = ap (λ (n : ℕ). columns start n (put start bs l)) (sym e) ∙ columns-put start bs l (rw e h)
-
--- bytes that are put into the front of a list leave what follows
-put-front : (start : ℕ) (bs l rest : List ℕ) → start - 1 + length bs ≤ length l → put start bs (l ++ rest) ≡ put start bs l ++ rest
-unfolding put
-put-front start bs l rest h =
-    let p : start - 1 ≤ length l = omega arith in
-    rw (take-append-le (start - 1) l rest p, drop-append-le (start - 1 + length bs) l rest h) (simp append-assoc)
-
-put-next : (start : ℕ) (bs l rest : List ℕ) → length l ≡ start - 1 → put start bs (l ++ rest) ≡ l ++ (bs ++ drop (length bs) rest)
-unfolding put
-put-next start bs l rest e =
-    let d : drop (start - 1 + length bs) (l ++ rest) ≡ drop (length bs) rest =
-    ap (λ (n : ℕ). drop (n + length bs) (l ++ rest)) (sym e) ∙ drop-append-add l rest (length bs) in
-    rw (take-at l rest (start - 1) e, d)
-
--- bytes that lie wholly in front of others may be put before or after them
-pub put-swap : (start start′ : ℕ) (bs cs l : List ℕ) → start - 1 + length bs ≤ start′ - 1 → start′ - 1 ≤ length l →
-    put start bs (put start′ cs l) ≡ put start′ cs (put start bs l)
-put-swap start start′ bs cs l h m =
-    let a = take (start′ - 1) l in
-    let b = drop (start′ - 1) l in
-    let n : length a ≡ start′ - 1 = length-take-le (start′ - 1) l m in
-    let f : start - 1 + length bs ≤ length a = omega arith in
-    let whole : l ≡ a ++ b = sym (take-append-drop (start′ - 1) l) in
-    ap (λ (x : List ℕ). put start bs (put start′ cs x)) whole
-    ∙ ap (put start bs) (put-next start′ cs a b n)
-    ∙ put-front start bs a (cs ++ drop (length cs) b) f
-    ∙ sym (put-next start′ cs (put start bs a) b (put-length start bs a f ∙ n))
-    ∙ ap (put start′ cs) (sym (put-front start bs a b f))
-    ∙ ap (λ (x : List ℕ). put start′ cs (put start bs x)) (sym whole)

@@ -195,7 +195,8 @@ fixed-back width d v r h =
     let s : (width - suc d) + d ≡ width - 1 = omega arith in
     let m : v < 10 ^ (width - suc d) * 10 ^ d = rw (← pow-add 10 (width - suc d) d, s) h in
     let q : v / 10 ^ d < 10 ^ (width - suc d) = div-lt-iff-lt-mul (one-le-pow d 10 (lit< tt)) .1 m in
-    rw (n, take-at whole (46 ∷ digitsOf d v) (width - suc d) e, drop-at whole (46 ∷ digitsOf d v) (width - suc d) e, whole-back (width - suc d) (v / 10 ^ d) (omega arith) q)
+    let b = whole-back (width - suc d) (v / 10 ^ d) (omega arith) q in
+    rw (n, take-at whole (46 ∷ digitsOf d v) (width - suc d) e, drop-at whole (46 ∷ digitsOf d v) (width - suc d) e, b)
     (digits-behind d v)
   where
     fixed-length′ : length (wholeWritten (width - suc d) (v / 10 ^ d) ++ (46 ∷ digitsOf d v)) ≡ width

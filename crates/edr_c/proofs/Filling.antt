@@ -1,7 +1,7 @@
 -- The answer's numbers, stored one by one at the front of a lent slice.
 -- Assumes nothing.
-use Prim.Native.Nat.{ℕ, zero, suc, _≤_, _<_}
-use mathlib.Core.Path.{_≡_, refl, sym, _∙_}
+use Prim.Native.Nat.{ℕ, _≤_, _<_}
+use mathlib.Core.Path.{_≡_, refl}
 use mathlib.Core.List.{List, [], _∷_}
 use native.Mathlib.Omega.{arith}
 use lib.ListN.{length, getD, drop, set}
@@ -36,9 +36,11 @@ module _ (file buffer : List ℕ) where
       (1 ≡ checkCode file buffer) × (set (set (set (set (set buffer 0 (r .hours)) 1 (r .so2)) 2 (r .co2)) 3 (r .heat)) 4 (r .nox) ≡ checkFilled file buffer)
   unfolding checkCode checkFilled
   accepted r e h =
-      (rw (le-ltb (length buffer) 5 h, checkCode, e), rw (le-ltb (length buffer) 5 h, checkFilled, e) (set-five buffer (r .hours) (r .so2) (r .co2) (r .heat) (r .nox) h))
+      let few = le-ltb (length buffer) 5 h in
+      (rw (few, checkCode, e), rw (few, checkFilled, e) (set-five buffer (r .hours) (r .so2) (r .co2) (r .heat) (r .nox) h))
 
-  pub refused : (r : Refusal) → checked file ≡ Refused r → 5 ≤ length buffer → (0 ≡ checkCode file buffer) × (set (set buffer 0 (r .number)) 1 (r .line) ≡ checkFilled file buffer)
+  pub refused : (r : Refusal) → checked file ≡ Refused r → 5 ≤ length buffer →
+      (0 ≡ checkCode file buffer) × (set (set buffer 0 (r .number)) 1 (r .line) ≡ checkFilled file buffer)
   unfolding checkCode checkFilled
   refused r e h = (rw (le-ltb (length buffer) 5 h, checkCode, e), rw (le-ltb (length buffer) 5 h, checkFilled, e) (set-two buffer (r .number) (r .line) h))
 
@@ -59,7 +61,8 @@ module _ (year quarter : ℕ) (name sheet buffer : List ℕ) where
   no-name h = (rw (ne-eqb (length name) stackWidth h, writeCode), rw (ne-eqb (length name) stackWidth h, writeFilled))
 
   -- what the writer answers and leaves for the six bytes is what it does for the name
-  pub named : (letters : List ℕ) (code : ℕ) (exit : List ℕ) → letters ≡ name → length name ≡ stackWidth → code ≡ writtenCode (answered year quarter letters sheet (length buffer)) → exit ≡ buffered year quarter letters sheet buffer →
+  pub named : (letters : List ℕ) (code : ℕ) (exit : List ℕ) → letters ≡ name → length name ≡ stackWidth →
+      code ≡ writtenCode (answered year quarter letters sheet (length buffer)) → exit ≡ buffered year quarter letters sheet buffer →
       (code ≡ writeCode year quarter name sheet buffer) × (exit ≡ writeFilled year quarter name sheet buffer)
   unfolding writeCode writeFilled
   named letters code exit l e c x = (rw (eq-eqb (length name) stackWidth e, writeCode, ← l) c, rw (eq-eqb (length name) stackWidth e, writeFilled, ← l) x)

@@ -12,16 +12,16 @@ use Rattle.writer.specs.Written.{answered, buffered}
 use Rattle.writer.specs.declared.Written.{Written}
 use Rattle.writer.specs.declared.Written.the-variants.{Length, Refused as Unwritten}
 
-abbrev pub codeOf : Answer → ℕ
-codeOf (Accepted r) = 1
-codeOf (Refused r) = 0
+abbrev pub answerCode : Answer → ℕ
+answerCode (Accepted r) = 1
+answerCode (Refused r) = 0
 
 -- the answer's numbers, and behind them what was there
 abbrev pub filled : Answer → List ℕ → List ℕ
 filled a buffer = numbersOf a ++ drop (length (numbersOf a)) buffer
 
 unfoldable pub checkCode : List ℕ → List ℕ → ℕ
-checkCode file buffer = elim (ltb (length buffer) 5) [ true ↦ 2 | false ↦ codeOf (checked file) ]
+checkCode file buffer = elim (ltb (length buffer) 5) [ true ↦ 2 | false ↦ answerCode (checked file) ]
 
 unfoldable pub checkFilled : List ℕ → List ℕ → List ℕ
 checkFilled file buffer = elim (ltb (length buffer) 5) [ true ↦ buffer | false ↦ filled (checked file) buffer ]

@@ -8,7 +8,8 @@ ghost use Rattle.edr_c.specs.Boundary.{checkCode, checkFilled, writeCode
 // refused; 2 where the answer has fewer than five elements. Elements beyond keep their values.
 #[no_mangle]
 pub extern "C" fn edr_check(file: &[u8], answer: &mut [u64]) -> u64
-    ensures { λ r. ⌜ (r ≡ checkCode (now (file .entry)) (now (answer .entry))) × (now (answer .exit) ≡ checkFilled (now (file .entry)) (now (answer .entry))) ⌝ }
+    ensures { λ r. ⌜ (r ≡ checkCode (now (file .entry)) (now (answer .entry)))
+        × (now (answer .exit) ≡ checkFilled (now (file .entry)) (now (answer .entry))) ⌝ }
 {
     if answer.len() < 5 {
         return 2;

@@ -57,7 +57,7 @@ fn answer_line(report: &[u8], line: &mut [u8]) -> usize
     ensures { λ r. ⌜ (r ≡ length (printed (checked (now (report .entry))))) × (r ≤ longestLine)
         × (now (line .exit) ≡ put 1 (printed (checked (now (report .entry)))) (now (line .entry))) ⌝ }
 {
-    printing::print_answer(checker::check(report), line)
+    printing::print_answer(line, checker::check(report))
 }
 
 fn main() {

@@ -20,7 +20,6 @@ pub record Positive : Type 0 where
 
 infix 50 _≤ᶠ_
 infix 50 _<ᶠ_
-infix 50 _≈_
 infixl 60 _⊕_
 infixl 70 _⊗_
 infixl 70 _÷_
@@ -29,9 +28,6 @@ x ≤ᶠ y = x .num * y .den ≤ y .num * x .den
 
 abbrev pub _<ᶠ_ : Fraction → Fraction → Type 0
 x <ᶠ y = x .num * y .den < y .num * x .den
-
-abbrev pub _≈_ : Fraction → Fraction → Type 0
-x ≈ y = (x ≤ᶠ y) × (y ≤ᶠ x)
 
 abbrev pub fraction : (num den : ℕ) → 0 < den → Fraction
 fraction num den pos = record { num = num; den = den; pos = pos }

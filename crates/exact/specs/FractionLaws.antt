@@ -1,10 +1,11 @@
 -- Laws of fractions. Each is `omega` over monomials, with every hypothesis handed over multiplied by what it lacks.
 -- Assumes nothing.
 use mathlib.Core.Path.{_≡_, refl}
-use Prim.Native.Nat.{ℕ, zero, suc, _+_, _*_, _≤_, _<_}
-use native.Mathlib.Nat.{mul-le-mul-left, mul-lt-mul-of-pos-left, mul-lt-mul-of-pos-right, mul-le-mul, mul-pos, le-of-lt, lt-of-le-of-lt, le-of-mul-le-mul-left, lt-of-mul-lt-mul-left, not-suc-le-zero}
+use Prim.Native.Nat.{ℕ, zero, suc, _*_, _≤_, _<_}
+use native.Mathlib.Nat.{mul-le-mul-left, mul-lt-mul-of-pos-left, mul-lt-mul-of-pos-right, mul-le-mul, mul-pos, le-of-lt}
+use native.Mathlib.Nat.{lt-of-le-of-lt, le-of-mul-le-mul-left, lt-of-mul-lt-mul-left, not-suc-le-zero}
 use native.Mathlib.Omega.{arith}
-use Rattle.exact.specs.Fraction.{Fraction, Positive, _≤ᶠ_, _<ᶠ_, _⊕_, _⊗_, _÷_, over, Near, fraction}
+use Rattle.exact.specs.Fraction.{Fraction, _≤ᶠ_, _<ᶠ_, _⊕_, _⊗_, _÷_, over, Near}
 
 pub le-lt-trans : (x y z : Fraction) → x ≤ᶠ y → y <ᶠ z → x <ᶠ z
 le-lt-trans x y z h k =
@@ -53,8 +54,12 @@ quotient-lt x y z w hz hw h k =
 
 pub near-trans : {x y z d e : Fraction} → Near x y d → Near y z e → Near x z (d ⊕ e)
 near-trans {x} {y} {z} {d} {e} h k = record {
-  over = le-of-mul-le-mul-left {k = y .den} (omega (arith, mul-le-mul-left (z .den * e .den) (h .over), mul-le-mul-left (x .den * d .den) (k .over))) (y .pos);
-  under = le-of-mul-le-mul-left {k = y .den} (omega (arith, mul-le-mul-left (z .den * e .den) (h .under), mul-le-mul-left (x .den * d .den) (k .under))) (y .pos);
+  over =
+      le-of-mul-le-mul-left {k = y .den}
+      (omega (arith, mul-le-mul-left (z .den * e .den) (h .over), mul-le-mul-left (x .den * d .den) (k .over))) (y .pos);
+  under =
+      le-of-mul-le-mul-left {k = y .den}
+      (omega (arith, mul-le-mul-left (z .den * e .den) (h .under), mul-le-mul-left (x .den * d .den) (k .under))) (y .pos);
 }
 
 pub near-weaken : {x y d e : Fraction} → Near x y d → d ≤ᶠ e → Near x y e
@@ -62,6 +67,3 @@ near-weaken {x} {y} {d} {e} h k = record {
   over = le-of-mul-le-mul-left {k = d .den} (omega (arith, mul-le-mul-left (e .den) (h .over), mul-le-mul-left (x .den * y .den) k)) (d .pos);
   under = le-of-mul-le-mul-left {k = d .den} (omega (arith, mul-le-mul-left (e .den) (h .under), mul-le-mul-left (x .den * y .den) k)) (d .pos);
 }
-
-pub near-scale : {x y d : Fraction} (c : Fraction) → Near x y d → Near (c ⊗ x) (c ⊗ y) (c ⊗ d)
-near-scale {x} {y} {d} c h = omega (arith, mul-le-mul-left (c .num * c .den * c .den) (h .over), mul-le-mul-left (c .num * c .den * c .den) (h .under))

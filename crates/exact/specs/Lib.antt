@@ -1,3 +1,4 @@
+pub mod Logic
 pub mod Fraction
 pub mod FractionLaws
 pub mod Rounding

@@ -1,18 +1,15 @@
 -- Two ranges meet where two strict comparisons hold; two ways to compute the comparisons are one test.
--- Assumes nothing.
-use mathlib.Core.Path.{_≡_, refl, sym, _∙_, ap₂}
+use mathlib.Core.Path.{_≡_, sym, _∙_, ap₂}
 use mathlib.Core.Logic.{_↔_}
-use mathlib.Core.Bool.{Bool, true, false, _&&_, true-and, false-and, false≢true}
-use Prim.Native.Nat.{ℕ, _≤_, _<_}
+use mathlib.Core.Bool.{true, _&&_}
+use Prim.Native.Nat.{ℕ, _*_, _≤_, _<_}
+use native.Mathlib.Nat.{mul-lt-mul-of-pos-left, lt-of-mul-lt-mul-left}
 use native.Mathlib.Omega.{arith}
 use native.Mathlib.Decide.{decLt}
 use lib.Dec.{ltb}
 use borrow.Author.Tests.{ltb-true, lt-ltb, le-ltb}
+use Rattle.exact.specs.Logic.{both}
 use Rattle.exact.specs.Behind.{meets}
-
-both : (p q : Bool) → (p && q) ≡ true → (p ≡ true) × (q ≡ true)
-both true q e = (refl, rw true-and at e)
-both false q e = absurd (false≢true (rw false-and at e))
 
 pub meets-true : (low high from below : ℕ) → (meets low high from below ≡ true) ↔ ((low < below) × (from < high))
 unfolding meets
@@ -37,3 +34,11 @@ same-meets {a} {b} {c} {d} {a′} {b′} {c′} {d′} e = ap₂ _&&_ (same-test
 
 pub meets-at : {a b c d a′ b′ c′ d′ : ℕ} → a ≡ a′ → b ≡ b′ → c ≡ c′ → d ≡ d′ → meets a b c d ≡ meets a′ b′ c′ d′
 meets-at e f g h = rw (e, f, g, h)
+
+reduced : (m a b a′ b′ : ℕ) → 0 < m → m * a ≡ a′ → m * b ≡ b′ → (a < b) ↔ (a′ < b′)
+reduced m a b a′ b′ h p q = (λ l. omega (arith, mul-lt-mul-of-pos-left l h), λ l. lt-of-mul-lt-mul-left m (omega arith))
+
+-- what is compared may be reduced by a common factor
+pub meets-reduced : (m a b c d : ℕ) {a′ b′ c′ d′ : ℕ} → 0 < m → m * a ≡ a′ → m * b ≡ b′ → m * c ≡ c′ → m * d ≡ d′ →
+    meets a b c d ≡ meets a′ b′ c′ d′
+meets-reduced m a b c d h p q r s = same-meets (reduced m a d _ _ h p s, reduced m c b _ _ h r q)

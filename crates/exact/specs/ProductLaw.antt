@@ -3,21 +3,21 @@
 use mathlib.Core.Path.{_≡_}
 use mathlib.Core.Bool.{true}
 use mathlib.Core.Logic.{_↔_, Iff·trans}
-use Prim.Native.Nat.{ℕ, _*_, _≤_, _<_}
+use Prim.Native.Nat.{ℕ, _*_, _<_}
 use native.Mathlib.Nat.{mul-pos, mul-lt-mul-of-pos-left, mul-lt-mul-of-pos-right, le-of-lt, lt-of-mul-lt-mul-left}
 use native.Mathlib.Omega.{arith}
 use Rattle.exact.specs.Fraction.{Fraction, Positive, _<ᶠ_, _⊗_, plain}
 use Rattle.exact.specs.FractionLaws.{mul-lt, le-lt-trans, mul-mono, mul-mono-lt, scale-mono, scale-lt}
-use Rattle.exact.specs.Rounding.{Span, In, first, end}
+use Rattle.exact.specs.Rounding.{Span, first, end}
 use Rattle.exact.specs.Behind.{product, BehindProduct, productMeets}
 use Rattle.exact.specs.MeetsLaws.{meets-true}
 use Rattle.exact.specs.Choose.{scaled, in-scaled, Picks, pick, Solves, solve}
 
 module _ (c : Positive) (s t r : Span) where
-  abbrev Fits : Type 0
-  Fits = (product c (first s) (first t) <ᶠ end r) × (first r <ᶠ product c (end s) (end t))
+  abbrev Meets : Type 0
+  Meets = (product c (first s) (first t) <ᶠ end r) × (first r <ᶠ product c (end s) (end t))
 
-  fits : BehindProduct c s t r → Fits
+  fits : BehindProduct c s t r → Meets
   fits b =
       let x = b .left in
       let y = b .right in (
@@ -29,9 +29,11 @@ module _ (c : Positive) (s t r : Span) where
             (scale-lt (plain c) (x ⊗ y) (end s ⊗ end t) (c .above) (mul-mono-lt x (end s) y (end t) (b .left-in .high) (b .right-in .high))),
       )
 
-  finds : Fits → BehindProduct c s t r
+  finds : Meets → BehindProduct c s t r
   finds f =
-      let y = pick (t .from) (t .below) (k * s .below) p (k * s .from) q (t .rises) (omega arith) (omega arith) (omega (arith, mul-lt hq (mul-lt-mul-of-pos-left (s .rises) hk))) in
+      let y =
+      pick (t .from) (t .below) (k * s .below) p (k * s .from) q (t .rises) (omega arith) (omega arith)
+      (omega (arith, mul-lt hq (mul-lt-mul-of-pos-left (s .rises) hk))) in
       found (y .0) (y .1)
     where
       k : ℕ
@@ -50,7 +52,9 @@ module _ (c : Positive) (s t r : Span) where
       hq = mul-lt-mul-of-pos-right (r .rises) (mul-pos (c .pos) (mul-pos (s .pos) (t .pos)))
 
       found : (y : Fraction) → Picks (t .from) (t .below) (k * s .below) p (k * s .from) q y → BehindProduct c s t r
-      found y h = at (solve _ _ (k * y .num) (p * y .den) (q * y .den) (lt-of-mul-lt-mul-left (s .below) {m = 0} (omega arith)) (s .rises) (mul-lt-mul-of-pos-right hq (y .pos)) (omega arith) (omega arith))
+      found y h =
+          at (solve _ _ (k * y .num) (p * y .den) (q * y .den) (lt-of-mul-lt-mul-left (s .below) {m = 0} (omega arith)) (s .rises)
+          (mul-lt-mul-of-pos-right hq (y .pos)) (omega arith) (omega arith))
         where
           at : (x : Fraction) × Solves (s .from) (s .below) (k * y .num) (p * y .den) (q * y .den) x → BehindProduct c s t r
           at (x, g) = record {

@@ -7,7 +7,7 @@ use mathlib.Core.Logic.{_↔_, Iff·trans}
 use Prim.Native.Nat.{ℕ, _*_, _≤_, _<_}
 use native.Mathlib.Nat.{mul-pos, mul-lt-mul-of-pos-left, mul-lt-mul-of-pos-right, le-of-lt, lt-of-le-of-lt, lt-of-mul-lt-mul-left}
 use native.Mathlib.Omega.{arith}
-use Rattle.exact.specs.Fraction.{Fraction, Positive, _≤ᶠ_, _<ᶠ_, _⊗_, _÷_, plain}
+use Rattle.exact.specs.Fraction.{Fraction, Positive, _≤ᶠ_, _<ᶠ_, _⊗_, plain}
 use Rattle.exact.specs.FractionLaws.{mul-lt, le-lt-trans, scale-mono, scale-lt, quotient, quotient-mono, quotient-lt}
 use Rattle.exact.specs.Rounding.{Span, In, first, end}
 use Rattle.exact.specs.Behind.{ratio, BehindRatio, Divisors, ratioMeets}
@@ -26,13 +26,13 @@ pub divisor-above : (t : Span) (z : Fraction) → 0 < t .from → first t ≤ᶠ
 divisor-above t z e h = lt-of-mul-lt-mul-left (t .scale) {m = 0} (omega (arith, mul-pos e (z .pos)))
 
 module _ (c : Positive) (s t : Span) (e : 0 < t .from) (D : Fraction → Type 0) (d : Divisors t D) (r : Span) where
-  abbrev Fits : Type 0
-  Fits = (ratio c (first s) (end t) <ᶠ end r) × (first r <ᶠ ratio c (end s) (first t))
+  abbrev Meets : Type 0
+  Meets = (ratio c (first s) (end t) <ᶠ end r) × (first r <ᶠ ratio c (end s) (first t))
 
   end-above : 0 < t .below
   end-above = lt-of-le-of-lt (le-of-lt e) (t .rises)
 
-  fits : BehindRatio c s D r → Fits
+  fits : BehindRatio c s D r → Meets
   fits b =
       let x = b .left in
       let z = b .right in
@@ -51,7 +51,7 @@ module _ (c : Positive) (s t : Span) (e : 0 < t .from) (D : Fraction → Type 0)
       (c .num * s .from * t .scale * r .scale < r .below * (c .den * s .scale * t .below))
       × (r .from * (c .den * s .scale * t .from) < c .num * s .below * t .scale * r .scale)
 
-  tests : Fits → Tests
+  tests : Meets → Tests
   tests f =
       let l = quotient (plain c ⊗ first s) (t .below) (t .scale) end-above in
       let h = quotient (plain c ⊗ end s) (t .from) (t .scale) e in
@@ -61,7 +61,9 @@ module _ (c : Positive) (s t : Span) (e : 0 < t .from) (D : Fraction → Type 0)
 
   finds : Tests → BehindRatio c s D r
   finds f =
-      let z = pick (t .from) (t .below) q (k * s .from) p (k * s .below) (t .rises) (omega arith) (omega arith) (omega (arith, mul-lt hq (mul-lt-mul-of-pos-left (s .rises) hk))) in
+      let z =
+      pick (t .from) (t .below) q (k * s .from) p (k * s .below) (t .rises) (omega arith) (omega arith)
+      (omega (arith, mul-lt hq (mul-lt-mul-of-pos-left (s .rises) hk))) in
       found (z .0) (z .1)
     where
       k : ℕ
@@ -84,13 +86,17 @@ module _ (c : Positive) (s t : Span) (e : 0 < t .from) (D : Fraction → Type 0)
         where
           at : 0 < z .num → BehindRatio c s D r
           at a =
-              let x = solve (s .from) (s .below) (k * z .den) (p * z .num) (q * z .num) (mul-pos hk (z .pos)) (s .rises) (mul-lt-mul-of-pos-right hq a) (omega arith) (omega arith) in
+              let x =
+              solve (s .from) (s .below) (k * z .den) (p * z .num) (q * z .num) (mul-pos hk (z .pos)) (s .rises) (mul-lt-mul-of-pos-right hq a)
+              (omega arith) (omega arith) in
               let v = quotient (plain c ⊗ scaled s (x .0)) (z .num) (z .den * t .scale) a in
               record {
                 left = scaled s (x .0);
                 right = scaled t z;
                 left-in = in-scaled s (x .0) (x .1 .low) (x .1 .high);
-                right-in = d .inside (scaled t z) (omega (arith, mul-lt-mul-of-pos-left (h .low) (t .pos))) (omega (arith, mul-lt-mul-of-pos-left (h .high) (t .pos)));
+                right-in =
+                    d .inside (scaled t z) (omega (arith, mul-lt-mul-of-pos-left (h .low) (t .pos)))
+                    (omega (arith, mul-lt-mul-of-pos-left (h .high) (t .pos)));
                 value-in = record { low = rw (v .upper, v .lower) (omega (arith, x .1)); high = rw (v .upper, v .lower) (omega (arith, x .1)) };
               }
 

@@ -3,10 +3,11 @@
 use mathlib.Core.Path.{_≡_, refl, sym, _∙_, ap₂}
 use mathlib.Core.Logic.{_↔_}
 use Prim.Native.Nat.{ℕ, zero, suc, _+_, _*_, _-_, _/_, _≤_, _<_}
-use native.Mathlib.Nat.{mul-pos, mul-le-mul-left, le-of-lt, le-of-mul-le-mul-left, mul-lt-mul-of-pos-left, lt-of-mul-lt-mul-left, div-eq-of-lt-le, div-mul-le-self, lt-div-mul-add, mul-div-mul-left}
+use native.Mathlib.Nat.{mul-pos, mul-le-mul-left, le-of-lt}
+use native.Mathlib.Nat.{div-eq-of-lt-le, div-mul-le-self, lt-div-mul-add, mul-div-mul-left}
 use native.Mathlib.Omega.{arith}
-use Rattle.exact.specs.Fraction.{Fraction, Positive, _≤ᶠ_, _<ᶠ_, _≈_, Near}
-use Rattle.exact.specs.Rounding.{Span, In, first, end, span, lowEnd, highEnd, Records, recorded, half, nearest, halfUp}
+use Rattle.exact.specs.Fraction.{Fraction, Positive, _≤ᶠ_, Near}
+use Rattle.exact.specs.Rounding.{first, span, Records, recorded, half, nearest, halfUp}
 
 -- without the subtraction: k·u ≤ x + u/2
 low-plain : (u : Positive) (x : Fraction) (k : ℕ) →
@@ -47,10 +48,3 @@ record-near u x k r =
 pub nearest-reduced : (m a b c d : ℕ) → 0 < m → m * a ≡ c → m * b ≡ d → nearest a b ≡ nearest c d
 nearest-reduced m a b c d h e f =
     sym (mul-div-mul-left (2 * a + b) (2 * b) h) ∙ ap₂ _/_ (omega arith) (omega arith)
-
--- equal fractions lie in the same spans
-pub in-same : (s : Span) (x y : Fraction) → x ≈ y → In s x → In s y
-in-same s x y e h = record {
-  low = le-of-mul-le-mul-left {k = x .den} (omega (arith, mul-le-mul-left (y .den) (h .low), mul-le-mul-left (s .scale) (e .0))) (x .pos);
-  high = lt-of-mul-lt-mul-left (x .den) (omega (arith, mul-lt-mul-of-pos-left (h .high) (y .pos), mul-le-mul-left (s .scale) (e .1)));
-}

@@ -1,13 +1,13 @@
 -- How far exact sums and means lie from those formed from records: half a unit for each rate, and half a unit for the total's own rounding.
 -- Assumes nothing.
-use mathlib.Core.Path.{_≡_, refl}
+use mathlib.Core.Path.{_≡_}
 use mathlib.Core.List.{List, [], _∷_}
-use Prim.Native.Nat.{ℕ, zero, suc, _+_, _*_, _≤_, _<_}
+use Prim.Native.Nat.{ℕ, zero, suc, _*_, _≤_, _<_}
 use native.Mathlib.Nat.{mul-pos, mul-le-mul-left}
 use native.Mathlib.Omega.{arith}
 use lib.ListN.{length}
-use Rattle.exact.specs.Fraction.{Fraction, Positive, _≤ᶠ_, _⊕_, _⊗_, _÷_, over, fraction, whole, plain, sumOf, Near}
-use Rattle.exact.specs.FractionLaws.{quotient, near-trans, near-weaken}
+use Rattle.exact.specs.Fraction.{Fraction, Positive, _≤ᶠ_, _⊕_, _÷_, over, fraction, whole, plain, sumOf, Near}
+use Rattle.exact.specs.FractionLaws.{near-trans, near-weaken}
 use Rattle.exact.specs.Rounding.{Records, recorded, half, halves, twice-pos}
 use Rattle.exact.specs.RoundingLaws.{record-near}
 use Rattle.exact.specs.Sums.{totalOf, Rate, amount, recordedAmount, hundred-pos, hundredths}
@@ -72,6 +72,8 @@ module _ (u : Positive) where
   mean-near l t r =
       near-weaken
       (near-trans
-      (near-over (length l) (sum-near (λ (h : Rate u). h .value) (λ (h : Rate u). h .figure) (u .num) (u .den) (u .num) (2 * u .den) (u .pos) (twice-pos u) (λ h. record-near u (h .value) (h .figure) (h .records)) l))
+      (near-over (length l)
+      (sum-near (λ (h : Rate u). h .value) (λ (h : Rate u). h .figure) (u .num) (u .den) (u .num) (2 * u .den) (u .pos) (twice-pos u)
+      (λ h. record-near u (h .value) (h .figure) (h .records)) l))
       (record-near u _ t r))
       (mean-share (length l))

@@ -5,8 +5,8 @@ use mathlib.Core.List.{List, [], _∷_, _++_, append-nil, append-assoc}
 use native.Mathlib.Omega.{arith}
 use native.Mathlib.Nat.{add-sub-cancel-left, pow-succ', div-div-eq-div-mul, le-of-suc-le-suc, not-suc-le-zero}
 use native.Mathlib.Numerals.{add-one}
-use lib.ListN.{length, take, drop, set, length-append, length-take, length-drop, drop-of-length-le}
-use lib.Seq.{append-snoc, drop-length, paste, take-length, drop-at, drop-drop, length-take-le}
+use lib.ListN.{length, take, drop, set, replicate, replicate-append-replicate, length-append, length-take, length-drop, drop-of-length-le}
+use lib.Seq.{take-suc-set, append-snoc, drop-length, paste, take-length, drop-at, drop-drop, length-take-le}
 use borrow.Rule.Slice.PartMut.{putMid}
 use Rattle.columns.specs.Columns.{put}
 use Rattle.columns.specs.Number.{pointIn}
@@ -43,7 +43,8 @@ unfolding leading
 leading-one l k v h = snoc-set (leading k (v / 10)) l k (digitOrBlank v) h
 
 -- the last digit, and what is in front of it
-pub whole-filled : (l : List ℕ) (v : ℕ) → 0 < length l → leading (length l - 1) (v / 10) ++ drop (length l - 1) (set l (length l - 1) (lastDigit v)) ≡ wholeWritten (length l) v
+pub whole-filled : (l : List ℕ) (v : ℕ) → 0 < length l →
+    leading (length l - 1) (v / 10) ++ drop (length l - 1) (set l (length l - 1) (lastDigit v)) ≡ wholeWritten (length l) v
 unfolding wholeWritten
 whole-filled l v h =
     let k = length l - 1 in
@@ -73,12 +74,15 @@ module _ (l : List ℕ) (d v : ℕ) (room : d + 2 ≤ length l) where
   decimals-length =
       length-take-le (length l - (pointIn l d + 1)) (drop (pointIn l d + 1) l) (rw length-drop (omega arith)) ∙ omega arith
 
-  pub fixed-filled : wholeWritten (pointIn l d) (v / 10 ^ d) ++ drop (pointIn l d) (set (putMid (pointIn l d + 1) (length l - (pointIn l d + 1)) l (digitsOf d v)) (pointIn l d) 46)
+  pub fixed-filled :
+      wholeWritten (pointIn l d) (v / 10 ^ d)
+      ++ drop (pointIn l d) (set (putMid (pointIn l d + 1) (length l - (pointIn l d + 1)) l (digitsOf d v)) (pointIn l d) 46)
       ≡ fixedWritten (length l) d v
   unfolding fixedWritten
   fixed-filled =
       let w : pointIn l d ≡ length l - suc d = omega arith in
-      behind-set (wholeWritten (pointIn l d) (v / 10 ^ d)) (putMid (pointIn l d + 1) (length l - (pointIn l d + 1)) l (digitsOf d v)) (digitsOf d v) (pointIn l d) 46
+      behind-set (wholeWritten (pointIn l d) (v / 10 ^ d)) (putMid (pointIn l d + 1) (length l - (pointIn l d + 1)) l (digitsOf d v)) (digitsOf d v)
+      (pointIn l d) 46
       (omega (arith, mid-length (pointIn l d + 1) l (digitsOf d v) (omega arith)))
       (mid-end (pointIn l d + 1) l (digitsOf d v) (omega arith))
       ∙ ap (λ (k : ℕ). wholeWritten k (v / 10 ^ d) ++ (46 ∷ digitsOf d v)) w
@@ -107,3 +111,8 @@ put-part start width l bs e = rw (add-sub-cancel-left (start - 1) width, ← e, 
 pub part-length : (start width : ℕ) (l : List ℕ) → start - 1 + width ≤ length l → length (take (start - 1 + width - (start - 1)) (drop (start - 1) l)) ≡ width
 part-length start width l h =
     rw (add-sub-cancel-left (start - 1) width) (length-take-le width (drop (start - 1) l) (rw length-drop (omega arith)))
+
+-- filled up to place i, and one more
+pub filled-more : (l : List ℕ) (i b : ℕ) → i < length l → take i l ≡ replicate i b → take (i + 1) (set l i b) ≡ replicate (i + 1) b
+filled-more l i b h e =
+    ap (λ (n : ℕ). take n (set l i b)) (add-one i) ∙ take-suc-set l i b h ∙ ap (λ (bs : List ℕ). bs ++ (b ∷ [])) e ∙ replicate-append-replicate i 1 b

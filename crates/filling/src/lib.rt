@@ -1,7 +1,7 @@
 // Numbers put into fixed columns of a line, counted from 1: digit by digit, from the last to the first, with no buffer between.
 ghost use mathlib.Core.Path.{_≡_};
 ghost use Prim.Native.Nat.{_+_, _/_, _≤_, _<_, _^_};
-ghost use lib.ListN.{length};
+ghost use lib.ListN.{length, replicate};
 ghost use Rattle.columns.specs.Columns.{Inside, put};
 ghost use Rattle.columns.specs.Number.{fewestColumns};
 ghost use Rattle.columns.specs.Written.{digitOrBlank, digitsOf, leading, wholeWritten, fixedWritten, written};
@@ -92,6 +92,17 @@ pub fn write_bytes(line: &mut [u8], start: usize, bytes: &[u8])
     let mut i = 0;
     while i < bytes.len() {
         line[from + i] = bytes[i];
+        i += 1;
+    }
+}
+
+// Every byte becomes this one.
+pub fn fill_with(part: &mut [u8], byte: u8)
+    ensures { λ _. ⌜ now (part .exit) ≡ replicate (length (now (part .entry))) byte ⌝ }
+{
+    let mut i = 0;
+    while i < part.len() {
+        part[i] = byte;
         i += 1;
     }
 }

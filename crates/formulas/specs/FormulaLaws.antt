@@ -1,117 +1,106 @@
 -- The test of a figure is exact: it passes where some unrounded readings lie behind the figure, and nowhere else.
--- What the writer writes passes: the recorded readings themselves lie behind it. Assumes nothing.
-use mathlib.Core.Path.{_≡_, refl}
+-- What the writer writes passes: the recorded readings themselves lie behind it.
+use mathlib.Core.Path.{_≡_, refl, sym, subst}
 use mathlib.Core.Bool.{true}
 use mathlib.Core.Logic.{_↔_, Iff·trans}
-use Prim.Native.Nat.{ℕ, _+_, _*_, _-_, _≤_, _<_}
+use Prim.Native.Nat.{ℕ, _*_, _<_}
+use native.Mathlib.Nat.{mul-pos}
 use native.Mathlib.Omega.{arith}
 use lib.Dec.{lit<}
-use Rattle.exact.specs.Fraction.{Fraction, Positive, _≈_, _⊗_, _÷_, plain, whole}
+use Rattle.exact.specs.Fraction.{Positive, plain, whole}
 use Rattle.exact.specs.FractionLaws.{quotient}
-use Rattle.exact.specs.Rounding.{Span, In, Records, recorded, span, halfUp}
-use Rattle.exact.specs.RoundingLaws.{in-same, records-recorded, records-rounded}
-use Rattle.exact.specs.Behind.{product, ratio, BehindProduct, BehindRatio}
+use Rattle.exact.specs.Rounding.{Span, In, span, lowEnd}
+use Rattle.exact.specs.RoundingLaws.{records-recorded, records-rounded}
 use Rattle.exact.specs.ProductLaw.{product-law}
-use Rattle.exact.specs.QuotientLaw.{recorded-divisors, divisor-above, quotient-law}
-use Rattle.formulas.specs.Hour.{tenth, flowUnit, unitOf, figureOf, ReadingsWithin, MassReadings, RateReadings, MassRounds, RateRounds, Entry, entryOf, asRecorded, RoundsTo}
-use Rattle.formulas.specs.Formulas.{so2Factor, noxFactor, co2Factor, valueOf, LiesBehind, passesTest, roundedValue, roundedFigures}
+use Rattle.exact.specs.QuotientLaw.{recorded-divisors, quotient-law}
+use Rattle.formulas.specs.Hour.{unitOf, figureOf, ReadingsWithin, asRecorded}
+use Rattle.formulas.specs.Formulas.{Measured, Equation, equationOf, Pair, pairOf, equationValue, RoundsTo, LiesBehind, spanOf, equationMeets, passesTest}
+use Rattle.formulas.specs.Formulas.{recordedPair, roundedValue, roundedFigures}
+use Rattle.formulas.specs.declared.Form.{Form}
+use Rattle.formulas.specs.declared.Form.the-variants.{Product, Quotient}
 use Rattle.formulas.specs.declared.hour.Readings.{Readings}
 use Rattle.formulas.specs.declared.hour.Hour.{Hour}
 use Rattle.formulas.specs.declared.hour.Quantity.{Quantity}
 use Rattle.formulas.specs.declared.hour.Quantity.the-variants.{Heat, So2, Nox, Co2}
 
--- values of two spans behind a product, by the names of the readings
-mass-behind : (c : Positive) (k f : ℕ) (r : Span) (value : MassReadings → Fraction) →
-    ((e : MassReadings) → (product c (e .concentration) (e .flow) ≈ value e)) →
-    BehindProduct c (span tenth k) (span flowUnit f) r ↔ ((e : MassReadings) × MassRounds k f e × In r (value e))
-mass-behind c k f r value same = (
-  λ b.
-      let e : MassReadings = record { concentration = b .left; flow = b .right } in
-      (e, record { concentration = b .left-in; flow = b .right-in }, in-same r (product c (b .left) (b .right)) (value e) (same e) (b .value-in)),
-  λ p.
-      let e : MassReadings = p .0 in
-      let s = same e in
-      record {
-        left = e .concentration;
-        right = e .flow;
-        left-in = p .1 .concentration;
-        right-in = p .1 .flow;
-        value-in = in-same r (value e) (product c (e .concentration) (e .flow)) (s .1, s .0) (p .2);
-      },
-)
+-- a divisor's span lies above 0
+abbrev pub Divides : Form → ℕ → Type 0
+Divides Product k = Unit {0}
+Divides Quotient k = 0 < lowEnd k
 
--- the same of a quotient, where the diluent is recorded as 0.1 or more
-rate-behind : (c : Positive) (k d : ℕ) (r : Span) (value : RateReadings → Fraction) →
-    ((e : RateReadings) → RateRounds k d e → (ratio c (e .concentration) (e .diluent) ≈ value e)) →
-    BehindRatio c (span tenth k) (In (span tenth d)) r ↔ ((e : RateReadings) × RateRounds k d e × In r (value e))
-rate-behind c k d r value same = (
-  λ b.
-      let e : RateReadings = record { concentration = b .left; diluent = b .right } in
-      let m : RateRounds k d e = record { concentration = b .left-in; diluent = b .right-in } in
-      (e, m, in-same r (ratio c (b .left) (b .right)) (value e) (same e m) (b .value-in)),
-  λ p.
-      let e : RateReadings = p .0 in
-      let s = same e (p .1) in
-      record {
-        left = e .concentration;
-        right = e .diluent;
-        left-in = p .1 .concentration;
-        right-in = p .1 .diluent;
-        value-in = in-same r (value e) (ratio c (e .concentration) (e .diluent)) (s .1, s .0) (p .2);
-      },
-)
+-- nothing in an equation is 0 that must not be: its factor, and what divides
+pub record Sound (e : Equation) : Type 0 where
+  pub factor : 0 < e .factor .num
+  pub right : Divides (e .form) (e .right .count)
 
-named : (q : Quantity) (h : Hour) → ((e : Entry q) × RoundsTo q (h .readings) e × Records (unitOf q) (valueOf q (h .readings) e) (figureOf q (h .figures))) ↔ ((e : Entry q) × LiesBehind q h e)
-named q h = (λ p. (p .0, record { reads = p .1; gives = p .2 }), λ p. (p .0, p .1 .reads, p .1 .gives))
+-- 1 / (100 × Fc)
+pub heat-factor : (r : Readings) → ReadingsWithin r → (equationOf Heat r .factor .num ≡ 10) × (equationOf Heat r .factor .den ≡ 100 * r .fc)
+heat-factor r w =
+    let v = quotient (whole 1) (100 * (r .fc * 1)) (1 * 10) (omega arith) in
+    (rw (v .upper) (omega arith), rw (v .lower) (omega arith))
 
-abbrev Exact : Quantity → Hour → Type 0
-Exact q h = (passesTest q h ≡ true) ↔ ((e : Entry q) × LiesBehind q h e)
+pub equation-sound : (q : Quantity) (r : Readings) → ReadingsWithin r → Sound (equationOf q r)
+equation-sound Heat r w = record { factor = rw (heat-factor r w .0) (lit< tt); right = tt }
+equation-sound So2 r w = record { factor = lit< tt; right = tt }
+equation-sound Nox r w = record { factor = omega arith; right = omega arith }
+equation-sound Co2 r w = record { factor = lit< tt; right = tt }
 
-heat-exact : (h : Hour) → ReadingsWithin (h .readings) → Exact Heat h
+-- the test of an equation against any span is exact: once for a product, once for a quotient
+abbrev Exact : Equation → Span → Type 0
+Exact e r = (equationMeets e r ≡ true) ↔ ((p : Pair) × RoundsTo e p × In r (equationValue e p))
+
+abbrev equation : Form → Positive → Measured → Measured → Equation
+equation f c x y = record { form = f; factor = plain c; left = x; right = y }
+
+exact-form : (f : Form) (c : Positive) (x y : Measured) → Divides f (y .count) → (r : Span) → Exact (equation f c x y) r
+exact-form Product c x y d r =
+    Iff·trans (product-law c (spanOf x) (spanOf y) r) (
+      λ b. (record { left = b .left; right = b .right }, record { left = b .left-in; right = b .right-in }, b .value-in),
+      λ p.
+          record {
+            left = p .0 .left;
+            right = p .0 .right;
+            left-in = p .1 .left;
+            right-in = p .1 .right;
+            value-in = p .2;
+          },
+    )
+exact-form Quotient c x y d r =
+    Iff·trans (quotient-law c (spanOf x) (spanOf y) (mul-pos d (y .unit .above)) (In (spanOf y)) (recorded-divisors (spanOf y)) r) (
+      λ b. (record { left = b .left; right = b .right }, record { left = b .left-in; right = b .right-in }, b .value-in),
+      λ p.
+          record {
+            left = p .0 .left;
+            right = p .0 .right;
+            left-in = p .1 .left;
+            right-in = p .1 .right;
+            value-in = p .2;
+          },
+    )
+
+pub test-exact : (q : Quantity) (h : Hour) → ReadingsWithin (h .readings) → (passesTest q h ≡ true) ↔ ((p : Pair) × LiesBehind q h p)
 unfolding passesTest
-heat-exact h w =
-    let c : Positive = record { num = 1; den = 10 * h .readings .fc; above = lit< tt; pos = omega arith } in
-    Iff·trans (product-law c _ _ _)
-    (Iff·trans
-    (mass-behind c _ _ _ (valueOf Heat (h .readings))
-    (λ e. let v = quotient (e .flow ⊗ e .concentration) (100 * (h .readings .fc * 1)) (1 * 10) (omega arith) in rw (v .upper, v .lower) (omega arith)))
-    (named Heat h))
+test-exact q h w =
+    let e = equationOf q (h .readings) in
+    let s = equation-sound q (h .readings) w in
+    let c : Positive = record { num = e .factor .num; den = e .factor .den; above = s .factor; pos = e .factor .pos } in
+    Iff·trans (exact-form (e .form) c (e .left) (e .right) (s .right) (span (unitOf q) (figureOf q (h .figures)))) (
+      λ p. (p .0, record { reads = p .1; gives = p .2 }),
+      λ p. (p .0, p .1 .reads, p .1 .gives),
+    )
 
-so2-exact : (h : Hour) → Exact So2 h
-unfolding passesTest
-so2-exact h = Iff·trans (product-law so2Factor _ _ _) (Iff·trans (mass-behind so2Factor _ _ _ (valueOf So2 (h .readings)) (λ e. omega arith)) (named So2 h))
+-- the recorded readings of a set are those of the equation, and round to themselves
+recorded-pair : (q : Quantity) (r : Readings) → pairOf q (asRecorded r) ≡ recordedPair (equationOf q r)
+recorded-pair Heat r = refl
+recorded-pair So2 r = refl
+recorded-pair Nox r = refl
+recorded-pair Co2 r = refl
 
-nox-exact : (h : Hour) → ReadingsWithin (h .readings) → Exact Nox h
-unfolding passesTest
-nox-exact h w =
-    let c : Positive = record { num = 1194 * h .readings .fc; den = 1_000_000_000; above = omega arith; pos = lit< tt } in
-    let t = span tenth (h .readings .co2) in
-    Iff·trans (quotient-law c _ t (omega arith) (In t) (recorded-divisors t) _)
-    (Iff·trans
-    (rate-behind c _ _ _ (valueOf Nox (h .readings))
-    (λ e m.
-    let a = divisor-above t (e .diluent) (omega arith) (m .diluent .low) in
-    let v = quotient (plain c ⊗ e .concentration) (e .diluent .num) (e .diluent .den) a in
-    let z = quotient (plain noxFactor ⊗ e .concentration ⊗ recorded tenth (h .readings .fc) ⊗ whole 100) (e .diluent .num) (e .diluent .den) a in
-    rw (v .upper, v .lower, z .upper, z .lower) (omega arith)))
-    (named Nox h))
-
-co2-exact : (h : Hour) → Exact Co2 h
-unfolding passesTest
-co2-exact h = Iff·trans (product-law co2Factor _ _ _) (Iff·trans (mass-behind co2Factor _ _ _ (valueOf Co2 (h .readings)) (λ e. omega arith)) (named Co2 h))
-
-pub test-exact : (q : Quantity) (h : Hour) → ReadingsWithin (h .readings) → (passesTest q h ≡ true) ↔ ((e : Entry q) × LiesBehind q h e)
-test-exact Heat h w = heat-exact h w
-test-exact So2 h w = so2-exact h
-test-exact Nox h w = nox-exact h w
-test-exact Co2 h w = co2-exact h
-
--- the recorded readings round to themselves
-recorded-rounds : (q : Quantity) (r : Readings) → RoundsTo q r (entryOf q (asRecorded r))
-recorded-rounds Heat r = record { concentration = records-recorded tenth (r .co2); flow = records-recorded flowUnit (r .flow) }
-recorded-rounds So2 r = record { concentration = records-recorded tenth (r .so2); flow = records-recorded flowUnit (r .flow) }
-recorded-rounds Nox r = record { concentration = records-recorded tenth (r .nox); diluent = records-recorded tenth (r .co2) }
-recorded-rounds Co2 r = record { concentration = records-recorded tenth (r .co2); flow = records-recorded flowUnit (r .flow) }
+recorded-rounds : (e : Equation) → RoundsTo e (recordedPair e)
+recorded-rounds e = record {
+  left = records-recorded (e .left .unit) (e .left .count);
+  right = records-recorded (e .right .unit) (e .right .count);
+}
 
 rounded-figure : (q : Quantity) (r : Readings) → figureOf q (roundedFigures r) ≡ roundedValue q r
 unfolding roundedFigures
@@ -121,12 +110,11 @@ rounded-figure Nox r = refl
 rounded-figure Co2 r = refl
 
 -- behind the rounded formula values lie the recorded readings
-pub written-behind : (q : Quantity) (h : Hour) → h .figures ≡ roundedFigures (h .readings) → LiesBehind q h (entryOf q (asRecorded (h .readings)))
+pub written-behind : (q : Quantity) (h : Hour) → h .figures ≡ roundedFigures (h .readings) → LiesBehind q h (pairOf q (asRecorded (h .readings)))
 unfolding roundedValue
-written-behind q h e = record {
-  reads = recorded-rounds q (h .readings);
-  gives = rw (e, rounded-figure q (h .readings)) (records-rounded (unitOf q) (valueOf q (h .readings) (entryOf q (asRecorded (h .readings)))));
-}
-
-pub written-passes : (q : Quantity) (h : Hour) → ReadingsWithin (h .readings) → h .figures ≡ roundedFigures (h .readings) → passesTest q h ≡ true
-written-passes q h w e = test-exact q h w .1 (entryOf q (asRecorded (h .readings)), written-behind q h e)
+written-behind q h e =
+    let x = equationOf q (h .readings) in
+    subst (LiesBehind q h) (sym (recorded-pair q (h .readings))) (record {
+      reads = recorded-rounds x;
+      gives = rw (e, rounded-figure q (h .readings)) (records-rounded (unitOf q) (equationValue x (recordedPair x)));
+    })

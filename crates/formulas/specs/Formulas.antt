@@ -1,64 +1,133 @@
--- The four formulas of 40 CFR Part 75, Appendix F: exact value, what lies behind a figure, the test of a figure, the rounded value.
--- FormulaLaws.antt proves the test exact. Assumes nothing.
+-- The four equations of 40 CFR Part 75, Appendix F, as data: a product or a quotient of two readings, with its factor. From them, once
+-- for a product and once for a quotient: the exact value, what lies behind a figure, the test of a figure, the rounded value.
+-- FormulaLaws.antt proves the test exact.
 use mathlib.Core.Path.{_≡_}
 use mathlib.Core.Bool.{Bool, true}
 use mathlib.Core.Logic.{_↔_}
-use Prim.Native.Nat.{ℕ, _*_}
+use Prim.Native.Nat.{ℕ}
 use lib.Dec.{lit<}
-use Rattle.exact.specs.Fraction.{Fraction, Positive, _⊗_, _÷_, plain, whole}
-use Rattle.exact.specs.Rounding.{Records, recorded, span, halfUp}
+use Rattle.exact.specs.Fraction.{Fraction, Positive, _⊗_, _÷_, fraction, whole}
+use Rattle.exact.specs.Rounding.{Span, Records, recorded, span, halfUp}
 use Rattle.exact.specs.Behind.{productMeets, ratioMeets}
-use Rattle.formulas.specs.Hour.{tenth, thousandth, flowUnit, unitOf, figureOf, Entry, entryOf, asRecorded, RoundsTo}
+use Rattle.formulas.specs.Hour.{tenth, flowUnit, unitOf, figureOf, Unrounded}
+use Rattle.formulas.specs.declared.Form.{Form}
+use Rattle.formulas.specs.declared.Form.the-variants.{Product, Quotient}
 use Rattle.formulas.specs.declared.hour.Readings.{Readings}
 use Rattle.formulas.specs.declared.hour.Figures.{Figures}
 use Rattle.formulas.specs.declared.hour.Hour.{Hour}
 use Rattle.formulas.specs.declared.hour.Quantity.{Quantity}
 use Rattle.formulas.specs.declared.hour.Quantity.the-variants.{Heat, So2, Nox, Co2}
 
--- 1.660 × 10^-7
-abbrev pub so2Factor : Positive
-so2Factor = record { num = 166; den = 1_000_000_000; above = lit< tt; pos = lit< tt }
+-- a recorded reading: so many units
+pub record Measured : Type 0 where
+  pub unit : Positive
+  pub count : ℕ
 
--- 1.194 × 10^-7
-abbrev pub noxFactor : Positive
-noxFactor = record { num = 1194; den = 10_000_000_000; above = lit< tt; pos = lit< tt }
+abbrev tenths : ℕ → Measured
+tenths n = record { unit = tenth; count = n }
 
--- 5.7 × 10^-7
-abbrev pub co2Factor : Positive
-co2Factor = record { num = 57; den = 100_000_000; above = lit< tt; pos = lit< tt }
+abbrev scfh : ℕ → Measured
+scfh n = record { unit = flowUnit; count = n }
 
--- F-15, F-1, F-6 and F-11. Fc is exact as recorded.
-abbrev pub valueOf : (q : Quantity) → Readings → Entry q → Fraction
-valueOf Heat r e = (e .flow ⊗ e .concentration) ÷ (whole 100 ⊗ recorded tenth (r .fc))
-valueOf So2 r e = plain so2Factor ⊗ e .concentration ⊗ e .flow
-valueOf Nox r e = (plain noxFactor ⊗ e .concentration ⊗ recorded tenth (r .fc) ⊗ whole 100) ÷ e .diluent
-valueOf Co2 r e = plain co2Factor ⊗ e .concentration ⊗ e .flow
+-- factor × left × right, or factor × left / right: the left reading is a concentration, the right one the flow or the diluent
+pub record Equation : Type 0 where
+  pub form : Form
+  pub factor : Fraction
+  pub left : Measured
+  pub right : Measured
+
+-- Fc, exact as recorded
+abbrev carbonFactor : Readings → Fraction
+carbonFactor r = recorded tenth (r .fc)
+
+-- F-15: CO2 × flow / (100 × Fc). F-1: 1.660 × 10^-7 × SO2 × flow.
+-- F-6: 1.194 × 10^-7 × NOx × Fc × 100 / CO2. F-11: 5.7 × 10^-7 × CO2 × flow.
+abbrev pub equationOf : Quantity → Readings → Equation
+equationOf Heat r = record {
+  form = Product;
+  factor = whole 1 ÷ (whole 100 ⊗ carbonFactor r);
+  left = tenths (r .co2);
+  right = scfh (r .flow);
+}
+equationOf So2 r = record {
+  form = Product;
+  factor = fraction 166 1_000_000_000 (lit< tt);
+  left = tenths (r .so2);
+  right = scfh (r .flow);
+}
+equationOf Nox r = record {
+  form = Quotient;
+  factor = fraction 1194 10_000_000_000 (lit< tt) ⊗ carbonFactor r ⊗ whole 100;
+  left = tenths (r .nox);
+  right = tenths (r .co2);
+}
+equationOf Co2 r = record {
+  form = Product;
+  factor = fraction 57 100_000_000 (lit< tt);
+  left = tenths (r .co2);
+  right = scfh (r .flow);
+}
+
+-- two unrounded readings, for the two of an equation
+pub record Pair : Type 0 where
+  pub left : Fraction
+  pub right : Fraction
+
+-- those of a set that a quantity's equation uses
+abbrev pub pairOf : Quantity → Unrounded → Pair
+pairOf Heat u = record { left = u .co2; right = u .flow }
+pairOf So2 u = record { left = u .so2; right = u .flow }
+pairOf Nox u = record { left = u .nox; right = u .co2 }
+pairOf Co2 u = record { left = u .co2; right = u .flow }
+
+abbrev pub formValue : Form → (factor left right : Fraction) → Fraction
+formValue Product c x y = c ⊗ (x ⊗ y)
+formValue Quotient c x z = (c ⊗ x) ÷ z
+
+-- an equation's exact value at unrounded readings
+abbrev pub equationValue : Equation → Pair → Fraction
+equationValue e p = formValue (e .form) (e .factor) (p .left) (p .right)
+
+abbrev pub exactValue : Quantity → Readings → Pair → Fraction
+exactValue q r p = equationValue (equationOf q r) p
+
+-- unrounded readings round to an equation's recorded ones
+pub record RoundsTo (e : Equation) (p : Pair) : Type 0 where
+  pub left : Records (e .left .unit) (p .left) (e .left .count)
+  pub right : Records (e .right .unit) (p .right) (e .right .count)
 
 -- "lies behind" (01): unrounded readings round to the recorded ones, and their formula value rounds to the figure
-pub record LiesBehind (q : Quantity) (h : Hour) (e : Entry q) : Type 0 where
-  pub reads : RoundsTo q (h .readings) e
-  pub gives : Records (unitOf q) (valueOf q (h .readings) e) (figureOf q (h .figures))
+pub record LiesBehind (q : Quantity) (h : Hour) (p : Pair) : Type 0 where
+  pub reads : RoundsTo (equationOf q (h .readings)) p
+  pub gives : Records (unitOf q) (exactValue q (h .readings) p) (figureOf q (h .figures))
 
--- The test of a figure: the values that the formula takes over the readings' spans meet the figure's span.
--- 1 / (100 × Fc) is 1 over ten times Fc's tenths; 1.194 × 10^-7 × Fc × 100 is 1,194 times Fc's tenths over 10^9.
+abbrev pub spanOf : Measured → Span
+spanOf m = span (m .unit) (m .count)
+
+-- the values that a form takes over two spans meet a third
+abbrev pub formMeets : Form → (num den : ℕ) → Span → Span → Span → Bool
+formMeets Product num den s t r = productMeets num den s t r
+formMeets Quotient num den s t r = ratioMeets num den s t r
+
+abbrev pub equationMeets : Equation → Span → Bool
+equationMeets e r = formMeets (e .form) (e .factor .num) (e .factor .den) (spanOf (e .left)) (spanOf (e .right)) r
+
+-- the test of a figure: the values that the equation takes over the readings' spans meet the figure's span
 unfoldable pub passesTest : Quantity → Hour → Bool
-passesTest Heat h =
-    productMeets 1 (10 * h .readings .fc) (span tenth (h .readings .co2)) (span flowUnit (h .readings .flow)) (span tenth (h .figures .heat))
-passesTest So2 h =
-    productMeets 166 1_000_000_000 (span tenth (h .readings .so2)) (span flowUnit (h .readings .flow)) (span tenth (h .figures .so2))
-passesTest Nox h =
-    ratioMeets (1194 * h .readings .fc) 1_000_000_000 (span tenth (h .readings .nox)) (span tenth (h .readings .co2)) (span thousandth (h .figures .nox))
-passesTest Co2 h =
-    productMeets 57 100_000_000 (span tenth (h .readings .co2)) (span flowUnit (h .readings .flow)) (span tenth (h .figures .co2))
+passesTest q h = equationMeets (equationOf q (h .readings)) (span (unitOf q) (figureOf q (h .figures)))
 
 -- a verdict on a figure: the test's, and right
 pub record Judges (q : Quantity) (h : Hour) (verdict : Bool) : Type 0 where
   pub test : verdict ≡ passesTest q h
-  pub exact : (verdict ≡ true) ↔ ((e : Entry q) × LiesBehind q h e)
+  pub exact : (verdict ≡ true) ↔ ((p : Pair) × LiesBehind q h p)
+
+-- an equation's recorded readings, read as exact
+abbrev pub recordedPair : Equation → Pair
+recordedPair e = record { left = recorded (e .left .unit) (e .left .count); right = recorded (e .right .unit) (e .right .count) }
 
 -- what the writer writes: the formula of the recorded readings, rounded half up
 unfoldable pub roundedValue : Quantity → Readings → ℕ
-roundedValue q r = halfUp (unitOf q) (valueOf q r (entryOf q (asRecorded r)))
+roundedValue q r = halfUp (unitOf q) (exactValue q r (recordedPair (equationOf q r)))
 
 unfoldable pub roundedFigures : Readings → Figures
 roundedFigures r = record { heat = roundedValue Heat r; so2 = roundedValue So2 r; nox = roundedValue Nox r; co2 = roundedValue Co2 r }

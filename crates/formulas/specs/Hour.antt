@@ -1,9 +1,10 @@
--- One operating hour: the units of its numbers, the ranges they lie in, and the unrounded readings behind them.
-use mathlib.Core.List.{List, [], _∷_}
+-- One operating hour: the units of its numbers, its figures by quantity, the ranges its numbers lie in, and unrounded readings.
+use mathlib.Core.List.{List}
 use Prim.Native.Nat.{ℕ}
 use lib.Dec.{lit<}
+use Rattle.exact.specs.Logic.{All}
 use Rattle.exact.specs.Fraction.{Fraction, Positive}
-use Rattle.exact.specs.Rounding.{Records, recorded}
+use Rattle.exact.specs.Rounding.{recorded}
 use Rattle.layout.specs.Layout.{Within, so2Ppm, noxPpm, co2Percent, flowScfh, fFactor, timeHours, heatRate, so2Rate, noxRate, co2Rate}
 use Rattle.formulas.specs.declared.hour.Readings.{Readings}
 use Rattle.formulas.specs.declared.hour.Figures.{Figures}
@@ -11,7 +12,7 @@ use Rattle.formulas.specs.declared.hour.Hour.{Hour}
 use Rattle.formulas.specs.declared.hour.Quantity.{Quantity}
 use Rattle.formulas.specs.declared.hour.Quantity.the-variants.{Heat, So2, Nox, Co2}
 
--- 0.1: ppm, percent, mmBtu/hr, lb/hr, tons/hr
+-- 0.1: ppm, percent, scf/mmBtu, mmBtu/hr, lb/hr, tons/hr
 abbrev pub tenth : Positive
 tenth = record { num = 1; den = 10; above = lit< tt; pos = lit< tt }
 
@@ -56,8 +57,7 @@ pub record HourWithin (h : Hour) : Type 0 where
   pub figures : FiguresWithin (h .figures)
 
 abbrev pub HoursWithin : List Hour → Type 0
-HoursWithin [] = Unit {0}
-HoursWithin (h ∷ hs) = HourWithin h × HoursWithin hs
+HoursWithin hs = All HourWithin hs
 
 -- a set of unrounded readings of one hour
 pub record Unrounded : Type 0 where
@@ -65,27 +65,6 @@ pub record Unrounded : Type 0 where
   pub nox : Fraction
   pub co2 : Fraction
   pub flow : Fraction
-
--- the readings that a formula uses: a concentration and the flow, or a concentration and the diluent
-pub record MassReadings : Type 0 where
-  pub concentration : Fraction
-  pub flow : Fraction
-
-pub record RateReadings : Type 0 where
-  pub concentration : Fraction
-  pub diluent : Fraction
-
-abbrev pub Entry : Quantity → Type 0
-Entry Heat = MassReadings
-Entry So2 = MassReadings
-Entry Nox = RateReadings
-Entry Co2 = MassReadings
-
-abbrev pub entryOf : (q : Quantity) → Unrounded → Entry q
-entryOf Heat u = record { concentration = u .co2; flow = u .flow }
-entryOf So2 u = record { concentration = u .so2; flow = u .flow }
-entryOf Nox u = record { concentration = u .nox; diluent = u .co2 }
-entryOf Co2 u = record { concentration = u .co2; flow = u .flow }
 
 -- the recorded readings, read as exact
 abbrev pub asRecorded : Readings → Unrounded
@@ -95,18 +74,3 @@ asRecorded r = record {
   co2 = recorded tenth (r .co2);
   flow = recorded flowUnit (r .flow);
 }
-
--- the entry rounds to the recorded readings: the concentration to k, the flow to f or the diluent to d
-pub record MassRounds (k f : ℕ) (e : MassReadings) : Type 0 where
-  pub concentration : Records tenth (e .concentration) k
-  pub flow : Records flowUnit (e .flow) f
-
-pub record RateRounds (k d : ℕ) (e : RateReadings) : Type 0 where
-  pub concentration : Records tenth (e .concentration) k
-  pub diluent : Records tenth (e .diluent) d
-
-abbrev pub RoundsTo : (q : Quantity) → Readings → Entry q → Type 0
-RoundsTo Heat r e = MassRounds (r .co2) (r .flow) e
-RoundsTo So2 r e = MassRounds (r .so2) (r .flow) e
-RoundsTo Nox r e = RateRounds (r .nox) (r .co2) e
-RoundsTo Co2 r e = MassRounds (r .co2) (r .flow) e

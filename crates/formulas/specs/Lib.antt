@@ -1,4 +1,6 @@
 pub mod Hour
 pub mod Formulas
 pub mod FormulaLaws
-pub mod Tried
+pub mod Reduced
+pub mod ReducedLaws
+pub mod WorkedRows

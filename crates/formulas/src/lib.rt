@@ -1,95 +1,117 @@
-// The four formulas in 64-bit arithmetic: the test of a figure, and the rounded value of recorded readings.
+// The four equations in 64-bit arithmetic: the test of a figure, and the rounded value of recorded readings.
 pub mod hour;
 
 use crate::hour::Figures;
 use crate::hour::Hour;
 use crate::hour::Quantity;
 use crate::hour::Readings;
-use exact::Ends;
 ghost use mathlib.Core.Path.{_≡_};
 ghost use Prim.Native.Nat.{_*_, _≤_};
-ghost use Rattle.exact.specs.Behind.{meets};
-ghost use Rattle.formulas.specs.Hour.{ReadingsWithin, HourWithin};
-ghost use Rattle.formulas.specs.Formulas.{passesTest, Judges, roundedValue, roundedFigures};
+ghost use Rattle.formulas.specs.Hour.{figureOf, ReadingsWithin, HourWithin};
+ghost use Rattle.formulas.specs.Formulas.{Judges, roundedValue, roundedFigures};
+ghost use Rattle.formulas.specs.Reduced.{formulaMeets, ProductRoom, QuotientRoom, Serves};
 
-// A product that leaves room for a factor of 166.
+// How an equation joins its two readings: left × right, or left / right.
+pub enum Form {
+    Product,
+    Quotient,
+}
+
+// An equation in recorded units, those of its figure and of its readings: num × left × right / den, or num × left / (den × right).
+pub struct Formula {
+    pub form: Form,
+    pub num: u64,
+    pub den: u64,
+    pub left: u64,
+    pub right: u64,
+}
+
+// F-15, F-1, F-6 and F-11.
+fn formula_of(q: Quantity, r: Readings) -> Formula
+    requires { ⌜ ReadingsWithin r ⌝ }
+    ensures { λ f. ⌜ Serves f q r ⌝ }
+{
+    match q {
+        Quantity::Heat => Formula {
+            form: Form::Product,
+            num: 1,
+            den: 10 * r.fc,
+            left: r.co2,
+            right: r.flow,
+        },
+        Quantity::So2 => Formula {
+            form: Form::Product,
+            num: 166,
+            den: 1000000000,
+            left: r.so2,
+            right: r.flow,
+        },
+        Quantity::Nox => Formula {
+            form: Form::Quotient,
+            num: 1194 * r.fc,
+            den: 1000000,
+            left: r.nox,
+            right: r.co2,
+        },
+        Quantity::Co2 => Formula {
+            form: Form::Product,
+            num: 57,
+            den: 100000000,
+            left: r.co2,
+            right: r.flow,
+        },
+    }
+}
+
+// A product that leaves room for a factor of 1,000.
 fn times(a: u64, b: u64) -> u64
-    requires { ⌜ (a ≤ 2000000) × (b ≤ 2000000000) ⌝ }
-    ensures { λ r. ⌜ (r ≡ a * b) × (r ≤ 4000000000000000) ⌝ }
+    requires { ⌜ (a ≤ 2000000) × (b ≤ 2100000000) ⌝ }
+    ensures { λ r. ⌜ (r ≡ a * b) × (r ≤ 4200000000000000) ⌝ }
 {
     a * b
 }
 
-// Whether c times the products of two readings meet m times a figure.
-fn product_meets(c: u64, x: Ends, y: Ends, m: u64, v: Ends) -> bool
-    requires { ⌜ (c ≤ 166) × (x .from ≤ 200000) × (x .below ≤ 200000) × (y .from ≤ 1000000001) × (y .below ≤ 1000000001)
-        × (m ≤ 2000000000) × (v .from ≤ 2000000) × (v .below ≤ 2000000) ⌝ }
-    ensures { λ r. ⌜ r ≡ meets (c * (x .from * y .from)) (c * (x .below * y .below)) (v .from * m) (v .below * m) ⌝ }
+// Whether the products of two readings meet a figure.
+fn product_meets(f: Formula, figure: u64) -> bool
+    requires { ⌜ ProductRoom f × (figure ≤ 999999) ⌝ }
+    ensures { λ r. ⌜ r ≡ formulaMeets Form.Product f figure ⌝ }
 {
+    let x = exact::ends_of(f.left);
+    let y = exact::ends_of(f.right);
+    let v = exact::ends_of(figure);
     exact::ranges_meet(
-        c * times(x.from, y.from),
-        c * times(x.below, y.below),
-        times(v.from, m),
-        times(v.below, m),
+        f.num * times(x.from, y.from),
+        f.num * times(x.below, y.below),
+        times(v.from, 2 * f.den),
+        times(v.below, 2 * f.den),
     )
 }
 
-// F-15.
-fn heat_passes(h: Hour) -> bool
-    requires { ⌜ HourWithin h ⌝ }
-    ensures { λ r. ⌜ r ≡ passesTest Quantity.Heat h ⌝ }
+// Whether the quotients of two readings meet a figure: the lowest has the divisor's high end and the highest its low end.
+fn quotient_meets(f: Formula, figure: u64) -> bool
+    requires { ⌜ QuotientRoom f × (figure ≤ 999999) ⌝ }
+    ensures { λ r. ⌜ r ≡ formulaMeets Form.Quotient f figure ⌝ }
 {
-    product_meets(
-        1,
-        exact::ends_of(h.readings.co2),
-        exact::ends_of(h.readings.flow),
-        20 * h.readings.fc,
-        exact::ends_of(h.figures.heat),
-    )
-}
-
-// F-1.
-fn so2_passes(h: Hour) -> bool
-    requires { ⌜ HourWithin h ⌝ }
-    ensures { λ r. ⌜ r ≡ passesTest Quantity.So2 h ⌝ }
-{
-    product_meets(
-        166,
-        exact::ends_of(h.readings.so2),
-        exact::ends_of(h.readings.flow),
-        2000000000,
-        exact::ends_of(h.figures.so2),
-    )
-}
-
-// F-6: the diluent divides, so the lowest value has its high end and the highest value its low end.
-fn nox_passes(h: Hour) -> bool
-    requires { ⌜ HourWithin h ⌝ }
-    ensures { λ r. ⌜ r ≡ passesTest Quantity.Nox h ⌝ }
-{
-    let x = exact::ends_of(h.readings.nox);
-    let z = exact::ends_of(h.readings.co2);
-    let v = exact::ends_of(h.figures.nox);
+    let x = exact::ends_of(f.left);
+    let z = exact::ends_of(f.right);
+    let v = exact::ends_of(figure);
     exact::ranges_meet(
-        times(x.from, 597 * h.readings.fc),
-        times(x.below, 597 * h.readings.fc),
-        times(v.from, z.from * 250000),
-        times(v.below, z.below * 250000),
+        times(x.from, 2 * f.num),
+        times(x.below, 2 * f.num),
+        times(v.from, f.den * z.from),
+        times(v.below, f.den * z.below),
     )
 }
 
-// F-11.
-fn co2_passes(h: Hour) -> bool
-    requires { ⌜ HourWithin h ⌝ }
-    ensures { λ r. ⌜ r ≡ passesTest Quantity.Co2 h ⌝ }
+fn figure_of(q: Quantity, f: Figures) -> u64
+    ensures { λ r. ⌜ r ≡ figureOf q f ⌝ }
 {
-    product_meets(
-        57,
-        exact::ends_of(h.readings.co2),
-        exact::ends_of(h.readings.flow),
-        200000000,
-        exact::ends_of(h.figures.co2),
-    )
+    match q {
+        Quantity::Heat => f.heat,
+        Quantity::So2 => f.so2,
+        Quantity::Nox => f.nox,
+        Quantity::Co2 => f.co2,
+    }
 }
 
 // Whether anything unrounded lies behind an hour's figure of a quantity.
@@ -97,51 +119,37 @@ pub fn figure_passes(q: Quantity, h: Hour) -> bool
     requires { ⌜ HourWithin h ⌝ }
     ensures { λ r. ⌜ Judges q h r ⌝ }
 {
-    match q {
-        Quantity::Heat => heat_passes(h),
-        Quantity::So2 => so2_passes(h),
-        Quantity::Nox => nox_passes(h),
-        Quantity::Co2 => co2_passes(h),
+    let formula = formula_of(q, h.readings);
+    let figure = figure_of(q, h.figures);
+    let form = formula.form;
+    match form {
+        Form::Product => product_meets(formula, figure),
+        Form::Quotient => quotient_meets(formula, figure),
     }
 }
 
-fn rounded_heat(r: Readings) -> u64
+// The formula of recorded readings, rounded half up.
+fn rounded_value(q: Quantity, r: Readings) -> u64
     requires { ⌜ ReadingsWithin r ⌝ }
-    ensures { λ v. ⌜ v ≡ roundedValue Quantity.Heat r ⌝ }
+    ensures { λ v. ⌜ v ≡ roundedValue q r ⌝ }
 {
-    exact::half_up(times(r.co2, r.flow), 10 * r.fc)
+    let f = formula_of(q, r);
+    let form = f.form;
+    match form {
+        Form::Product => exact::half_up(f.num * times(f.left, f.right), f.den),
+        Form::Quotient => exact::half_up(times(f.left, f.num), f.den * f.right),
+    }
 }
 
-fn rounded_so2(r: Readings) -> u64
-    requires { ⌜ ReadingsWithin r ⌝ }
-    ensures { λ v. ⌜ v ≡ roundedValue Quantity.So2 r ⌝ }
-{
-    exact::half_up(166 * times(r.so2, r.flow), 1000000000)
-}
-
-fn rounded_nox(r: Readings) -> u64
-    requires { ⌜ ReadingsWithin r ⌝ }
-    ensures { λ v. ⌜ v ≡ roundedValue Quantity.Nox r ⌝ }
-{
-    exact::half_up(times(r.nox, 1194 * r.fc), 1000000 * r.co2)
-}
-
-fn rounded_co2(r: Readings) -> u64
-    requires { ⌜ ReadingsWithin r ⌝ }
-    ensures { λ v. ⌜ v ≡ roundedValue Quantity.Co2 r ⌝ }
-{
-    exact::half_up(57 * times(r.co2, r.flow), 100000000)
-}
-
-// The figures that the formulas give for recorded readings, rounded half up.
+// The figures that the formulas give for recorded readings.
 pub fn rounded_figures(r: Readings) -> Figures
     requires { ⌜ ReadingsWithin r ⌝ }
     ensures { λ f. ⌜ f ≡ roundedFigures r ⌝ }
 {
     Figures {
-        heat: rounded_heat(r),
-        so2: rounded_so2(r),
-        nox: rounded_nox(r),
-        co2: rounded_co2(r),
+        heat: rounded_value(Quantity::Heat, r),
+        so2: rounded_value(Quantity::So2, r),
+        nox: rounded_value(Quantity::Nox, r),
+        co2: rounded_value(Quantity::Co2, r),
     }
 }

@@ -9,8 +9,8 @@ use Rattle.layout.specs.declared.RecordType.{RecordType}
 pub nth : (u : RecordType) (k : ℕ) {t : RecordType} {i : ℕ} → t ≡ u → i ≡ k → valueAt u k ≡ valueAt t i
 nth u k e f = ap₂ valueAt (sym e) (sym f)
 
--- the last one
-pub last : (u : RecordType) (k : ℕ) (t : RecordType) (i : ℕ) → t ≡ u → valueCount u ≡ suc k → i < valueCount t → k ≤ i → valueAt u k ≡ valueAt t i
-last u k t i e n h l =
+-- the last-value one
+pub last-value : (u : RecordType) (k : ℕ) (t : RecordType) (i : ℕ) → t ≡ u → valueCount u ≡ suc k → i < valueCount t → k ≤ i → valueAt u k ≡ valueAt t i
+last-value u k t i e n h l =
     let m : valueCount t ≡ suc k = ap valueCount e ∙ n in
     nth u k e (omega arith)

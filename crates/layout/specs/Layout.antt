@@ -1,13 +1,15 @@
 -- The records of a report: one row a type, and their order. Everything else is derived from the two. Columns count from 1.
-use Prim.Native.Nat.{ℕ, zero, suc, _+_, _*_, _-_, _≤_, _^_}
+use Prim.Native.Nat.{ℕ, suc, _+_, _*_, _-_, _≤_, _^_}
 use mathlib.Core.Bool.{Bool, cond, _&&_}
-use mathlib.Core.List.{List, [], _∷_, _++_}
+use mathlib.Core.List.{List, [], _∷_}
 use lib.Dec.{eqb, leb}
 use lib.ListN.{length, getD, take, drop}
+use Rattle.calendar.specs.Calendar.{mostHours}
 use Rattle.exact.specs.Sums.{totalOf}
 use Rattle.columns.specs.Written.{digitsOf}
 use Rattle.layout.specs.declared.RecordType.{RecordType}
-use Rattle.layout.specs.declared.RecordType.the-variants.{Facility, So2Concentration, NoxConcentration, Co2Concentration, VolumetricFlow, Operation, QuarterTotals, So2Mass, NoxRate, Co2Mass}
+use Rattle.layout.specs.declared.RecordType.the-variants.{Facility, So2Concentration, NoxConcentration, Co2Concentration, VolumetricFlow}
+use Rattle.layout.specs.declared.RecordType.the-variants.{Operation, QuarterTotals, So2Mass, NoxRate, Co2Mass}
 use Rattle.layout.specs.declared.Value.{Value}
 use Rattle.layout.specs.declared.Shape.{Shape}
 use Rattle.layout.specs.declared.Run.{Run}
@@ -221,7 +223,7 @@ reportLength s = totalOf (bytesOf s) order
 
 -- the counts of a quarter
 pub record Held (s : Shape) : Type 0 where
-  pub hours : s .hours ≤ 2208
+  pub hours : s .hours ≤ mostHours
 
 -- a number of a value's range, and the test of it
 pub record Within (v : Value) (k : ℕ) : Type 0 where

@@ -1,17 +1,21 @@
 -- What is proved of the table and the order: a test over all rows holds of each; a report of n operating hours has 64 + 318 × n bytes.
 use mathlib.Core.Path.{_≡_, refl, sym, ap, _∙_}
-use mathlib.Core.Bool.{Bool, true, false, cond, _&&_}
-use mathlib.Core.List.{List, [], _∷_, _++_}
+use mathlib.Core.Bool.{Bool, true, _&&_}
+use mathlib.Core.List.{List, [], _∷_}
 use Prim.Native.Nat.{ℕ, zero, suc, _+_, _*_, _-_, _≤_, _<_}
 use native.Mathlib.Omega.{arith}
 use native.Mathlib.Nat.{le-of-suc-le-suc, not-suc-le-zero}
 use lib.Dec.{leb, lit≤}
 use lib.ListN.{length, getD}
 use borrow.Author.Tests.{leb-true, le-leb}
+use Rattle.calendar.specs.Calendar.{mostHours}
+use Rattle.exact.specs.Logic.{both}
 use Rattle.exact.specs.Sums.{totalOf}
-use Rattle.layout.specs.Layout.{codeOf, lengthOf, dateColumn, dateWidth, valueCount, mostValues, linesOf, recordOf, countOf, bytesOf, order, rankOf, typeAt, reportLength, Held, Within, within}
+use Rattle.layout.specs.Layout.{lengthOf, dateColumn, dateWidth, valueCount, mostValues, linesOf, recordOf}
+use Rattle.layout.specs.Layout.{countOf, order, rankOf, typeAt, reportLength, Held, Within, within}
 use Rattle.layout.specs.declared.RecordType.{RecordType}
-use Rattle.layout.specs.declared.RecordType.the-variants.{Facility, So2Concentration, NoxConcentration, Co2Concentration, VolumetricFlow, Operation, QuarterTotals, So2Mass, NoxRate, Co2Mass}
+use Rattle.layout.specs.declared.RecordType.the-variants.{Facility, So2Concentration, NoxConcentration, Co2Concentration, VolumetricFlow}
+use Rattle.layout.specs.declared.RecordType.the-variants.{Operation, QuarterTotals, So2Mass, NoxRate, Co2Mass}
 use Rattle.layout.specs.declared.Run.{Run}
 use Rattle.layout.specs.declared.Run.the-variants.{Once, Hourly}
 use Rattle.layout.specs.declared.Shape.{Shape}
@@ -21,10 +25,6 @@ use Rattle.layout.specs.declared.Value.{Value}
 abbrev pub allTypes : (RecordType → Bool) → List RecordType → Bool
 allTypes p [] = true
 allTypes p (t ∷ ts) = p t && allTypes p ts
-
-pub both : (p q : Bool) → (p && q) ≡ true → (p ≡ true) × (q ≡ true)
-both true q e = (refl, e)
-both false q e = absurd (let z : _≡_ {A = ℕ} 0 1 = ap (λ (b : Bool). cond b 1 0) e in omega arith)
 
 -- every type stands in the order
 pub in-order : (t : RecordType) → (rankOf t < length order) × (typeAt (rankOf t) ≡ t)
@@ -39,14 +39,14 @@ in-order So2Mass = (lit≤ tt, refl)
 in-order NoxRate = (lit≤ tt, refl)
 in-order Co2Mass = (lit≤ tt, refl)
 
-all-at : (p : RecordType → Bool) (ts : List RecordType) (i : ℕ) (d : RecordType) → allTypes p ts ≡ true → i < length ts → p (getD ts i d) ≡ true
-all-at p [] i d e h = absurd (not-suc-le-zero h)
-all-at p (t ∷ ts) zero d e h = both (p t) (allTypes p ts) e .0
-all-at p (t ∷ ts) (suc i) d e h = all-at p ts i d (both (p t) (allTypes p ts) e .1) (le-of-suc-le-suc h)
+types-at : (p : RecordType → Bool) (ts : List RecordType) (i : ℕ) (d : RecordType) → allTypes p ts ≡ true → i < length ts → p (getD ts i d) ≡ true
+types-at p [] i d e h = absurd (not-suc-le-zero h)
+types-at p (t ∷ ts) zero d e h = both (p t) (allTypes p ts) e .0
+types-at p (t ∷ ts) (suc i) d e h = types-at p ts i d (both (p t) (allTypes p ts) e .1) (le-of-suc-le-suc h)
 
 -- what a test computed over the order shows of each type
 pub each : (p : RecordType → Bool) → allTypes p order ≡ true → (t : RecordType) → p t ≡ true
-each p e t = ap p (sym (in-order t .1)) ∙ all-at p order (rankOf t) Facility e (in-order t .0)
+each p e t = ap p (sym (in-order t .1)) ∙ types-at p order (rankOf t) Facility e (in-order t .0)
 
 pub each-le : (f g : RecordType → ℕ) → allTypes (λ t. leb (f t) (g t)) order ≡ true → (t : RecordType) → f t ≤ g t
 each-le f g e t = leb-true (f t) (g t) (each (λ t. leb (f t) (g t)) e t)
@@ -71,10 +71,10 @@ date-inside t h =
 pub date-fits : (t : RecordType) → dateColumn t - 1 + dateWidth ≤ lengthOf t
 date-fits t = each-le (λ t. dateColumn t - 1 + dateWidth) (λ t. lengthOf t) refl t
 
-pub count-most : (s : Shape) → Held s → (t : RecordType) → countOf s t ≤ 2208
+pub count-most : (s : Shape) → Held s → (t : RecordType) → countOf s t ≤ mostHours
 count-most s h t = go (recordOf t .run)
   where
-    go : (run : Run) → linesOf run s ≤ 2208
+    go : (run : Run) → linesOf run s ≤ mostHours
     go Once = omega arith
     go Hourly = omega arith
 

@@ -5,7 +5,7 @@ use mathlib.Core.Bool.{Bool, true, false, cond}
 use mathlib.Core.List.{List, [], _∷_}
 use native.Mathlib.Omega.{arith}
 use lib.Dec.{eqb}
-use Rattle.layout.specs.Layout.{recordOf, codeOf, lengthOf, linesOf, order, past, upTo, nothing, frontOf}
+use Rattle.layout.specs.Layout.{recordOf, codeOf, lengthOf, linesOf, order, past, upTo, frontOf}
 use Rattle.layout.specs.LayoutLaws.{each-le}
 use Rattle.layout.specs.declared.RecordType.{RecordType}
 use Rattle.layout.specs.declared.Run.{Run}
@@ -15,8 +15,8 @@ use Rattle.layout.specs.declared.Front.{Front}
 use Rattle.layout.specs.declared.Lead.{Lead}
 
 -- lines of their own and their bytes, and those of one operating hour
-abbrev pub leading : (lines bytes hourLines hourBytes : ℕ) → Lead
-leading lines bytes hourLines hourBytes = record { once = record { lines = lines; bytes = bytes }; hourly = record { lines = hourLines; bytes = hourBytes } }
+abbrev pub leadBy : (lines bytes hourLines hourBytes : ℕ) → Lead
+leadBy lines bytes hourLines hourBytes = record { once = record { lines = lines; bytes = bytes }; hourly = record { lines = hourLines; bytes = hourBytes } }
 
 -- one line more, of so many bytes
 abbrev longer : ℕ → Front → Front
@@ -31,7 +31,7 @@ leadTo code b [] = b
 leadTo code b (t ∷ ts) = cond (eqb (codeOf t) code) b (leadTo code (addRun (recordOf t .run) (lengthOf t + 1) b) ts)
 
 abbrev pub leadOf : RecordType → Lead
-leadOf t = leadTo (codeOf t) (leading 0 0 0 0) order
+leadOf t = leadTo (codeOf t) (leadBy 0 0 0 0) order
 
 -- in a report of a shape
 abbrev pub sizedBy : Shape → Lead → Front
@@ -60,7 +60,7 @@ lead-to code s b (t ∷ ts) =
 pub lead-front : (s : Shape) (t : RecordType) → frontOf s t ≡ sizedBy s (leadOf t)
 lead-front s t =
     ap (λ f. upTo (codeOf t) s f order) (front _ _ _ _ (omega arith) (omega arith))
-    ∙ lead-to (codeOf t) s (leading 0 0 0 0) order
+    ∙ lead-to (codeOf t) s (leadBy 0 0 0 0) order
 
 pub record Small (b : Lead) : Type 0 where
   pub lines : b .once .lines ≤ 1000

@@ -11,9 +11,10 @@ use lib.ListN.{length, getD, take, length-append}
 use borrow.Author.Tests.{eqb-true, leb-true}
 use Rattle.exact.specs.Sums.{totalOf}
 use Rattle.layout.specs.Layout.{recordOf, codeOf, dateColumn, order, rankOf, typeAt, bytesOf, frontOf, reportLength}
-use Rattle.layout.specs.LayoutLaws.{both, each}
+use Rattle.exact.specs.Logic.{both}
+use Rattle.layout.specs.LayoutLaws.{each}
 use Rattle.layout.specs.TypeLaws.{code-tells}
-use Rattle.layout.specs.PlaceLaws.{front-bytes, runsOf}
+use Rattle.layout.specs.PlaceLaws.{front-bytes, joinedRuns}
 use Rattle.layout.specs.declared.RecordType.{RecordType}
 use Rattle.layout.specs.declared.RecordType.the-variants.{Facility, QuarterTotals}
 use Rattle.layout.specs.declared.Run.{Run}
@@ -91,7 +92,7 @@ in-run s i h =
 
 -- the runs of some types are as long as their bytes in sum
 pub runs-length : (run : RecordType → List ℕ) (s : Shape) → ((t : RecordType) → length (run t) ≡ bytesOf s t) → (ts : List RecordType)
-    → length (runsOf run ts) ≡ totalOf (bytesOf s) ts
+    → length (joinedRuns run ts) ≡ totalOf (bytesOf s) ts
 unfolding totalOf
 runs-length run s long [] = refl
-runs-length run s long (t ∷ ts) = length-append (run t) (runsOf run ts) ∙ omega (arith, long t, runs-length run s long ts)
+runs-length run s long (t ∷ ts) = length-append (run t) (joinedRuns run ts) ∙ omega (arith, long t, runs-length run s long ts)

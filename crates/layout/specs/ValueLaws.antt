@@ -9,7 +9,8 @@ use lib.ListN.{length, getD}
 use borrow.Author.Tests.{leb-true}
 use Rattle.columns.specs.Number.{fewestColumns}
 use Rattle.layout.specs.Layout.{lengthOf, valuesOf, valueCount, valueAt, noValue}
-use Rattle.layout.specs.LayoutLaws.{both, each}
+use Rattle.exact.specs.Logic.{both}
+use Rattle.layout.specs.LayoutLaws.{each}
 use Rattle.layout.specs.declared.Value.{Value}
 use Rattle.layout.specs.declared.RecordType.{RecordType}
 

@@ -2,8 +2,10 @@
 ghost use mathlib.Core.Path.{_≡_};
 ghost use Prim.Native.Nat.{_+_, _*_, _≤_, _<_};
 ghost use lib.ListN.{length};
-ghost use Rattle.layout.specs.Lead.{leading, leadOf};
-ghost use Rattle.layout.specs.Layout.{within, typeDigits, lengthOf, dateColumn, rowOf, countOf, order, typeAt, frontOf, lineOf, offsetOf, reportLength, Held, valueCount, valueAt};
+ghost use Rattle.calendar.specs.Calendar.{mostHours};
+ghost use Rattle.layout.specs.Lead.{leadBy, leadOf};
+ghost use Rattle.layout.specs.Layout.{within, typeDigits, lengthOf, dateColumn, rowOf, countOf, order, typeAt};
+ghost use Rattle.layout.specs.Layout.{frontOf, lineOf, offsetOf, reportLength, Held, valueCount, valueAt};
 
 // Every line has its type and its stack name.
 pub const TYPE_START: usize = 1;
@@ -233,8 +235,8 @@ pub fn type_at(place: usize) -> RecordType
     ORDER[place]
 }
 
-fn leading(lines: usize, bytes: usize, more: usize, longer: usize) -> Lead
-    ensures { λ r. ⌜ r ≡ leading lines bytes more longer ⌝ }
+fn lead_by(lines: usize, bytes: usize, more: usize, longer: usize) -> Lead
+    ensures { λ r. ⌜ r ≡ leadBy lines bytes more longer ⌝ }
 {
     Lead {
         once: Front { lines, bytes },
@@ -250,21 +252,21 @@ fn lead_of(t: RecordType) -> Lead
     ensures { λ r. ⌜ r ≡ leadOf t ⌝ }
 {
     match t {
-        RecordType::Facility => leading(0, 0, 0, 0),
-        RecordType::So2Concentration => leading(1, 15, 0, 0),
-        RecordType::NoxConcentration => leading(1, 15, 1, 41),
-        RecordType::Co2Concentration => leading(1, 15, 2, 76),
-        RecordType::VolumetricFlow => leading(1, 15, 3, 111),
-        RecordType::Operation => leading(1, 15, 4, 160),
-        RecordType::QuarterTotals => leading(1, 15, 5, 203),
-        RecordType::So2Mass => leading(2, 64, 5, 203),
-        RecordType::NoxRate => leading(2, 64, 6, 238),
-        RecordType::Co2Mass => leading(2, 64, 7, 293),
+        RecordType::Facility => lead_by(0, 0, 0, 0),
+        RecordType::So2Concentration => lead_by(1, 15, 0, 0),
+        RecordType::NoxConcentration => lead_by(1, 15, 1, 41),
+        RecordType::Co2Concentration => lead_by(1, 15, 2, 76),
+        RecordType::VolumetricFlow => lead_by(1, 15, 3, 111),
+        RecordType::Operation => lead_by(1, 15, 4, 160),
+        RecordType::QuarterTotals => lead_by(1, 15, 5, 203),
+        RecordType::So2Mass => lead_by(2, 64, 5, 203),
+        RecordType::NoxRate => lead_by(2, 64, 6, 238),
+        RecordType::Co2Mass => lead_by(2, 64, 7, 293),
     }
 }
 
 fn sized(once: usize, hourly: usize, hours: usize) -> usize
-    requires { ⌜ (once ≤ 1000) × (hourly ≤ 1000) × (hours ≤ 2208) ⌝ }
+    requires { ⌜ (once ≤ 1000) × (hourly ≤ 1000) × (hours ≤ mostHours) ⌝ }
     ensures { λ r. ⌜ (r ≡ once + hourly * hours) × (r ≤ 10000000) ⌝ }
 {
     once + hourly * hours
@@ -284,7 +286,7 @@ pub fn front_of(s: Shape, t: RecordType) -> Front
 
 // The line of a type's record of rank k, from 0; the first line is 1.
 pub fn line_of(s: Shape, t: RecordType, k: usize) -> usize
-    requires { ⌜ Held s × (k ≤ 2208) ⌝ }
+    requires { ⌜ Held s × (k ≤ mostHours) ⌝ }
     ensures { λ r. ⌜ r ≡ lineOf s t k ⌝ }
 {
     1 + front_of(s, t).lines + k
@@ -292,7 +294,7 @@ pub fn line_of(s: Shape, t: RecordType, k: usize) -> usize
 
 // Where that line starts, in bytes.
 pub fn offset_of(s: Shape, t: RecordType, k: usize) -> usize
-    requires { ⌜ Held s × (k ≤ 2208) ⌝ }
+    requires { ⌜ Held s × (k ≤ mostHours) ⌝ }
     ensures { λ r. ⌜ r ≡ offsetOf s t k ⌝ }
 {
     front_of(s, t).bytes + (row_of(t).length + 1) * k

@@ -5,10 +5,10 @@ use mathlib.Core.List.{List}
 use mathlib.Core.Bool.{Bool, not}
 use Rattle.columns.specs.Bytes.{isBlank, all}
 use Rattle.calendar.specs.declared.QuarterHour.{QuarterHour}
-use Rattle.calendar.specs.declared.QuarterHour.the-variants.{At, Outside}
 use Rattle.layout.specs.Layout.{yearDigits, quarterDigit, valuesOf, within}
 use Rattle.layout.specs.declared.RecordType.the-variants.{Facility, So2Concentration}
-use Rattle.lines.specs.LineFaults.{_orElse_, unless, shapeFault, stackOf, commonFault, valuesFault, digitsIn, periodOn, facilityFault, facilityLine, risingFault, hourOn, hourFault, hourNumber, hourLine}
+use Rattle.lines.specs.LineFaults.{_orElse_, unless, shapeFault, stackOf, commonFault, valuesFault, digitsIn, periodOn}
+use Rattle.lines.specs.LineFaults.{facilityFault, facilityLine, risingFault, hourOn, hourFault, hourNumber, hourLine}
 use Rattle.lines.specs.declared.Period.{Period}
 use Rattle.lines.specs.declared.FacilityLine.{FacilityLine}
 use Rattle.lines.specs.declared.FacilityLine.the-variants.{Of, Faulty as FaultyFacility}

@@ -1,6 +1,6 @@
 -- Faults looked for one after the other: the first that is there is the answer.
 use Prim.Native.Nat.{ℕ, zero, suc}
-use mathlib.Core.Path.{_≡_, refl, sym, _∙_}
+use mathlib.Core.Path.{_≡_, refl, sym}
 use Rattle.lines.specs.LineFaults.{_orElse_}
 
 pub or-first : (a b : ℕ) → (a ≡ 0 → ⊥) → a orElse b ≡ a

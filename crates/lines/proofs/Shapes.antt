@@ -6,7 +6,7 @@ use mathlib.Core.Bool.{Bool, true, false, _&&_}
 use native.Mathlib.Omega.{arith}
 use native.Mathlib.Decide.{decLt}
 use native.Mathlib.Numerals.{add-one}
-use lib.Dec.{eqb, leb}
+use lib.Dec.{eqb}
 use lib.ListN.{length, take, drop, getD, length-take, drop-of-length-le, List·getD-eq-default}
 use lib.Seq.{drop-cons, length-take-le}
 use borrow.Author.Tests.{eq-eqb, ne-eqb, eqb-true}
@@ -16,8 +16,8 @@ use Rattle.columns.specs.WrittenLaws.{digits-length, digits-all-digits}
 use Rattle.layout.specs.Layout.{codeOf, lengthOf, typeWidth, typeDigits}
 use Rattle.layout.specs.declared.RecordType.{RecordType}
 use Rattle.lines.specs.Lines.{firstLine}
-use Rattle.lines.specs.LineLaws.{first-take, line-part}
-use Rattle.lines.specs.LineFaults.{_orElse_, unless, typeIs, shapeFault}
+use Rattle.lines.specs.LineLaws.{first-take}
+use Rattle.lines.specs.LineFaults.{unless, typeIs, shapeFault}
 use Rattle.lines.specs.FaultLaws.{shape-length}
 use Rattle.lines.specs.Beginning.{isLine}
 
@@ -92,9 +92,6 @@ module _ (t : RecordType) (bs : List ℕ) (fine : shapeFault t (firstLine bs) �
   pub line-length : length (take long bs) ≡ lengthOf t
   line-length = rw (← line-known) (shape-length t (firstLine bs) fine)
 
-  pub line-room : long ≤ length bs
-  line-room = omega (arith, shape-length t (firstLine bs) fine, line-part bs)
-
   pub line-fine : shapeFault t (take long bs) ≡ 0
   line-fine = rw (← line-known) fine
 
@@ -105,7 +102,8 @@ alone zero [] e h = refl
 alone zero (b ∷ bs) e h = rw (eq-eqb b 10 e, firstLine)
 alone (suc long) [] e h = refl
 alone (suc long) (b ∷ bs) e h =
-    rw (ne-eqb b 10 (other (all-head isPrintable b (take long bs) h)), firstLine) (ap (λ (l : List ℕ). b ∷ l) (alone long bs e (all-tail isPrintable b (take long bs) h)))
+    rw (ne-eqb b 10 (other (all-head isPrintable b (take long bs) h)), firstLine)
+    (ap (λ (l : List ℕ). b ∷ l) (alone long bs e (all-tail isPrintable b (take long bs) h)))
   where
     other : isPrintable b ≡ true → b ≡ 10 → ⊥
     other p g = let z : isPrintable 10 ≡ true = rw g at p in let y : _≡_ {A = ℕ} 0 1 = cc in omega arith
@@ -115,7 +113,8 @@ module _ (long : ℕ) (bs : List ℕ) where
   unfolding isLine
   parts = go (eqb (getD bs long 0) 10) refl
     where
-      go : (t : Bool) → eqb (getD bs long 0) 10 ≡ t → t && all isPrintable (take long bs) ≡ true → (getD bs long 0 ≡ 10) × (all isPrintable (take long bs) ≡ true)
+      go : (t : Bool) → eqb (getD bs long 0) 10 ≡ t → t && all isPrintable (take long bs) ≡ true →
+          (getD bs long 0 ≡ 10) × (all isPrintable (take long bs) ≡ true)
       go true e h = (eqb-true (getD bs long 0) 10 e, h)
       go false e h = let z : _≡_ {A = ℕ} 0 1 = cc in absurd (omega arith)
 

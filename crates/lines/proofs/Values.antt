@@ -10,7 +10,7 @@ use lib.ListN.{length, take, drop, getD, drop-of-length-le}
 use lib.Seq.{drop-cons}
 use Rattle.columns.specs.Bytes.{same}
 use Rattle.columns.specs.Columns.{columns}
-use Rattle.layout.specs.Layout.{lengthOf, dateColumn, dateWidth, rangedValue, valueCount, valuesOf, valueAt}
+use Rattle.layout.specs.Layout.{dateWidth, rangedValue, valueCount, valuesOf, valueAt}
 use Rattle.layout.specs.ValueLaws.{value-count, value-of}
 use Rattle.layout.specs.declared.RecordType.{RecordType}
 use Rattle.layout.specs.declared.Value.{Value}
@@ -46,10 +46,10 @@ module _ (t : RecordType) (line : List ℕ) (i : ℕ) where
   values-end h = let k : length (valuesOf t) ≤ i = omega (arith, value-count t) in rw (drop-of-length-le (valuesOf t) k)
 
 -- the bytes from a date's column on, as a part of the line
-pub date-told : (column : ℕ) (date line : List ℕ) (from : ℕ) (r : Bool) → from ≡ column → (from ≡ 0 → ⊥) →
+pub date-compared : (column : ℕ) (date line : List ℕ) (from : ℕ) (r : Bool) → from ≡ column → (from ≡ 0 → ⊥) →
     r ≡ same (take (from - 1 + dateWidth - (from - 1)) (drop (from - 1) line)) date → dateFault column date line ≡ unless r 7
 unfolding dateFault columns
-date-told column date line from r e n h = rw (h, ← e) (go from n)
+date-compared column date line from r e n h = rw (h, ← e) (go from n)
   where
     go : (k : ℕ) → (k ≡ 0 → ⊥) → dateFault k date line ≡ unless (same (take (k - 1 + dateWidth - (k - 1)) (drop (k - 1) line)) date) 7
     go zero m = absurd (m refl)

@@ -1,6 +1,6 @@
 -- A file whose last byte is 10 ends with a line's end: no line runs past it.
-use Prim.Native.Nat.{ℕ, zero, suc, _+_, _≤_, _<_}
-use mathlib.Core.Path.{_≡_, refl, sym, ap, _∙_}
+use Prim.Native.Nat.{ℕ, zero, suc, _+_, _<_}
+use mathlib.Core.Path.{_≡_, refl, _∙_}
 use mathlib.Core.List.{List, [], _∷_}
 use mathlib.Core.Bool.{Bool, true, false}
 use native.Mathlib.Omega.{arith}
@@ -29,7 +29,8 @@ line-shorter (b ∷ []) h e = go (eqb b 10) refl
     go false f = absurd (eqb-false b 10 f e)
 line-shorter (b ∷ c ∷ bs) h e = go (eqb b 10) (line-shorter (c ∷ bs) (omega arith) e)
   where
-    go : (t : Bool) → length (firstLine (c ∷ bs)) < length (c ∷ bs) → length {A = ℕ} (elim t [ true ↦ [] | false ↦ b ∷ firstLine (c ∷ bs) ]) < length (b ∷ c ∷ bs)
+    go : (t : Bool) → length (firstLine (c ∷ bs)) < length (c ∷ bs) →
+        length {A = ℕ} (elim t [ true ↦ [] | false ↦ b ∷ firstLine (c ∷ bs) ]) < length (b ∷ c ∷ bs)
     go true k = omega arith
     go false k = omega arith
 

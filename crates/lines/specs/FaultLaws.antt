@@ -1,6 +1,6 @@
 -- What a line without fault is like: its length, its type, and every value within its range.
 use Prim.Native.Nat.{ℕ, zero, suc, _+_, _-_, _≤_, _<_}
-use mathlib.Core.Path.{_≡_, refl, sym, ap, _∙_}
+use mathlib.Core.Path.{_≡_, refl, ap, _∙_}
 use mathlib.Core.List.{List, [], _∷_}
 use mathlib.Core.Bool.{Bool, true, false, not}
 use native.Mathlib.Omega.{arith}
@@ -9,13 +9,13 @@ use lib.Dec.{eqb, leb}
 use lib.ListN.{length, take, drop, getD}
 use lib.Seq.{drop-drop, take-take}
 use borrow.Author.Tests.{eqb-true, leb-true}
-use Rattle.columns.specs.Bytes.{isBlank, all, same}
+use Rattle.columns.specs.Bytes.{isBlank, all}
 use Rattle.columns.specs.BytesLaws.{same-eq}
 use Rattle.columns.specs.Columns.{columns}
 use Rattle.columns.specs.Number.{numberOf}
 use Rattle.columns.specs.declared.Field.{Field}
 use Rattle.columns.specs.declared.Field.the-variants.{Blank, Malformed, Number}
-use Rattle.calendar.specs.Calendar.{IsQuarter}
+use Rattle.calendar.specs.Calendar.{mostHours, IsQuarter}
 use Rattle.calendar.specs.declared.QuarterHour.{QuarterHour}
 use Rattle.calendar.specs.declared.QuarterHour.the-variants.{At, Outside}
 use Rattle.layout.specs.Layout.{codeOf, lengthOf, dateColumn, typeWidth, typeDigits, yearDigits, quarterDigit, valuesOf, Within, within}
@@ -24,22 +24,23 @@ use Rattle.layout.specs.TypeLaws.{digits-tell}
 use Rattle.layout.specs.declared.RecordType.{RecordType}
 use Rattle.layout.specs.declared.RecordType.the-variants.{Facility, So2Concentration}
 use Rattle.layout.specs.declared.Value.{Value}
-use Rattle.stamp.specs.Stamp.{stampHour}
 use Rattle.stamp.specs.StampLaws.{stamp-below}
-use Rattle.lines.specs.LineFaults.{_orElse_, unless, typeIs, shapeFault, stackOf, stackFault, commonFault, fieldFault, fieldIn, valuesFault, digitsIn, periodOn, facilityFault, facilityLine, risingFault, dateOn, hourOn, hourFault, hourNumber, hourLine, Due, dateFault, dueFault}
+use Rattle.lines.specs.LineFaults.{_orElse_, unless, typeIs, shapeFault, stackOf, commonFault, fieldFault, fieldIn, valuesFault, digitsIn, periodOn}
+use Rattle.lines.specs.LineFaults.{facilityFault, facilityLine, risingFault, dateOn, hourOn, hourFault, hourNumber, hourLine, Due, dateFault, dueFault}
 use Rattle.lines.specs.declared.Period.{Period}
-use Rattle.lines.specs.declared.FacilityLine.{FacilityLine}
 use Rattle.lines.specs.declared.FacilityLine.the-variants.{Of, Faulty as FaultyFacility}
-use Rattle.lines.specs.declared.HourLine.{HourLine}
 use Rattle.lines.specs.declared.HourLine.the-variants.{At as OfHour, Faulty as FaultyHour}
 
 pub or-zero : (a b : ℕ) → a orElse b ≡ 0 → (a ≡ 0) × (b ≡ 0)
 or-zero zero b e = (refl, e)
 or-zero (suc a) b e = absurd (omega arith)
 
+pub unless-none : (t : Bool) (n : ℕ) → 1 ≤ n → unless t n ≡ 0 → t ≡ true
+unless-none true n h e = refl
+unless-none false n h e = absurd (omega arith)
+
 pub unless-zero : (t : Bool) (k : ℕ) → unless t (suc k) ≡ 0 → t ≡ true
-unless-zero true k e = refl
-unless-zero false k e = absurd (omega arith)
+unless-zero t k e = unless-none t (suc k) (omega arith) e
 
 module _ (t : RecordType) (line : List ℕ) (e : shapeFault t line ≡ 0) where
   pub shape-type : typeIs t line ≡ true
@@ -109,11 +110,11 @@ module _ (facility : List ℕ) (period : Period) (from : ℕ) (line : List ℕ) 
   hour-values = hour-parts .1
 
   -- its hour is one of the quarter, and not below `from`
-  pub hour-rises : IsQuarter (period .quarter) → (from ≤ hourNumber (hourOn period line)) × (hourNumber (hourOn period line) < 2208)
+  pub hour-rises : IsQuarter (period .quarter) → (from ≤ hourNumber (hourOn period line)) × (hourNumber (hourOn period line) < mostHours)
   unfolding risingFault hourNumber
   hour-rises q = go (hourOn period line) refl (hour-parts .0)
     where
-      go : (h : QuarterHour) → hourOn period line ≡ h → risingFault from h ≡ 0 → (from ≤ hourNumber h) × (hourNumber h < 2208)
+      go : (h : QuarterHour) → hourOn period line ≡ h → risingFault from h ≡ 0 → (from ≤ hourNumber h) × (hourNumber h < mostHours)
       go Outside k f = absurd (omega arith)
       go (At h) k f = (leb-true from h (unless-zero (leb from h) 5 f), stamp-below (period .year) (period .quarter) q (dateOn line) h k)
 

@@ -2,7 +2,7 @@
 -- paper's table; 0 is none.
 use Prim.Native.Nat.{ℕ, zero, suc}
 use mathlib.Core.List.{List, [], _∷_}
-use mathlib.Core.Bool.{Bool, true, false, cond, not}
+use mathlib.Core.Bool.{Bool, cond, not}
 use lib.Dec.{eqb, leb}
 use lib.ListN.{length, take}
 use Rattle.columns.specs.Bytes.{isBlank, isPrintable, all, same}

@@ -1,6 +1,6 @@
 -- The lines of a file from any place on: the first of them is what stands before the next byte 10, and the others follow it.
-use Prim.Native.Nat.{ℕ, zero, suc, _+_, _≤_, _<_}
-use mathlib.Core.Path.{_≡_, refl, sym, ap, _∙_}
+use Prim.Native.Nat.{ℕ, suc, _+_, _≤_, _<_}
+use mathlib.Core.Path.{_≡_, refl, ap, _∙_}
 use mathlib.Core.List.{List, [], _∷_}
 use mathlib.Core.Bool.{Bool, true, false}
 use native.Mathlib.Omega.{arith}
@@ -43,7 +43,8 @@ pub lines-at : (file : List ℕ) (at : ℕ) → at < length file →
     lines (drop at file) ≡ firstLine (drop at file) ∷ lines (drop (at + (length (firstLine (drop at file)) + 1)) file)
 lines-at file at h =
     let p : 0 < length (drop at file) = simp length-drop (omega arith) in
-    lines-cons (drop at file) p ∙ ap (λ (l : List ℕ). firstLine (drop at file) ∷ lines l) (rw (add-one) (drop-drop (suc (length (firstLine (drop at file)))) at file))
+    lines-cons (drop at file) p
+    ∙ ap (λ (l : List ℕ). firstLine (drop at file) ∷ lines l) (rw (add-one) (drop-drop (suc (length (firstLine (drop at file)))) at file))
 
 -- a first line of known length is that many bytes, and the others follow byte 10
 pub line-at : (file : List ℕ) (at long : ℕ) → length (firstLine (drop at file)) ≡ long → firstLine (drop at file) ≡ take long (drop at file)

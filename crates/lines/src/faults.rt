@@ -29,7 +29,7 @@ fn stack_fault(facility: &[u8], line: &[u8]) -> u64
 }
 
 // 2 to 5: what every line behind line 100 is tried for first.
-pub fn common_fault(facility: &[u8], t: RecordType, rest: &[u8]) -> u64
+pub fn common_fault(facility: &[u8], rest: &[u8], t: RecordType) -> u64
     requires { ⌜ lengthOf RecordType.Facility ≤ length (now facility) ⌝ }
     ensures { λ r. ⌜ r ≡ commonFault (now (facility .entry)) t (firstLine (now (rest .entry))) ⌝ }
 {
@@ -90,7 +90,7 @@ pub fn values_fault(line: &[u8], t: RecordType) -> u64
 }
 
 // 7: a date and hour that must be `date`; a type without one has none.
-pub fn date_fault(line: &[u8], t: RecordType, date: &[u8]) -> u64
+pub fn date_fault(line: &[u8], date: &[u8], t: RecordType) -> u64
     requires { ⌜ length (now line) ≡ lengthOf t ⌝ }
     ensures { λ r. ⌜ r ≡ dateFault (dateColumn t) (now (date .entry)) (now (line .entry)) ⌝ }
 {

@@ -54,11 +54,11 @@ pub fn facility_line(rest: &[u8]) -> FacilityLine
 }
 
 // A 200 line, whose hour of the quarter must be at least `from`.
-pub fn hour_line(facility: &[u8], period: Period, from: u64, rest: &[u8]) -> HourLine
+pub fn hour_line(facility: &[u8], rest: &[u8], period: Period, from: u64) -> HourLine
     requires { ⌜ (lengthOf RecordType.Facility ≤ length (now facility)) × IsQuarter (period .quarter) ⌝ }
     ensures { λ r. ⌜ r ≡ hourLine (now (facility .entry)) period from (firstLine (now (rest .entry))) ⌝ }
 {
-    let common = faults::common_fault(facility, RecordType::So2Concentration, rest);
+    let common = faults::common_fault(facility, rest, RecordType::So2Concentration);
     if common != 0 {
         return HourLine::Faulty(common);
     }
@@ -80,17 +80,17 @@ pub fn hour_line(facility: &[u8], period: Period, from: u64, rest: &[u8]) -> Hou
 }
 
 // The fault of a line that is due with its type and date; 0 is none.
-pub fn due_fault(facility: &[u8], t: RecordType, date: &[u8], rest: &[u8]) -> u64
+pub fn due_fault(facility: &[u8], date: &[u8], rest: &[u8], t: RecordType) -> u64
     requires { ⌜ lengthOf RecordType.Facility ≤ length (now facility) ⌝ }
     ensures { λ r. ⌜ r ≡ dueFault (now (facility .entry)) (dueOf t (now (date .entry))) (firstLine (now (rest .entry))) ⌝ }
 {
-    let common = faults::common_fault(facility, t, rest);
+    let common = faults::common_fault(facility, rest, t);
     if common != 0 {
         return common;
     }
     let long = layout::line_length(t);
     let line = &rest[..long];
-    let dated = faults::date_fault(line, t, date);
+    let dated = faults::date_fault(line, date, t);
     if dated != 0 {
         return dated;
     }

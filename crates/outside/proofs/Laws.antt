@@ -5,7 +5,7 @@ use mathlib.Core.Path.{_≡_, refl, sym, ap, _∙_}
 use mathlib.Core.List.{List, [], _∷_, _++_}
 use native.Mathlib.Omega.{arith}
 use native.Mathlib.Numerals.{add-one}
-use lib.ListN.{length, take, drop, set, getD, replicate, length-replicate, replicate-append-replicate, drop-of-length-le}
+use lib.ListN.{length, take, drop, set, getD, replicate, length-replicate, drop-of-length-le}
 use lib.Seq.{drop-cons, take-suc-set}
 use Rattle.layout.specs.Layout.{reportLength}
 use Rattle.writer.specs.Refusals.{refusalOf}
@@ -22,9 +22,6 @@ stored-more : (l values : List ℕ) (i v : ℕ) → i < length l → take i l �
 stored-more l values i v h e =
     ap (λ (n : ℕ). take n (set l i v)) (add-one i) ∙ take-suc-set l i v h ∙ ap (λ (xs : List ℕ). xs ++ (v ∷ [])) e
 
-pub filled-more : (l : List ℕ) (i : ℕ) → i < length l → take i l ≡ replicate i 165 → take (i + 1) (set l i 165) ≡ replicate (i + 1) 165
-filled-more l i h e = stored-more l (replicate i 165) i 165 h e ∙ replicate-append-replicate i 1 165
-
 pub words-more : (bytes l : List ℕ) (i : ℕ) → i < length l → take i l ≡ wordsOf i bytes
     → take (i + 1) (set l i (numberAt bytes (4 * i))) ≡ wordsOf (i + 1) bytes
 unfolding wordsOf
@@ -40,7 +37,8 @@ pub adler-end : (bytes : List ℕ) (i a b : ℕ) → length bytes ≤ i → adle
 unfolding adlerOf
 adler-end bytes i a b h = rw (drop-of-length-le bytes h) refl
 
-pub answer-fits : (year quarter : ℕ) (name sheet : List ℕ) (room : ℕ) (written : Written) → written ≡ answered year quarter name sheet room → lastOf written 0 ≤ room
+pub answer-fits : (year quarter : ℕ) (name sheet : List ℕ) (room : ℕ) (written : Written) →
+    written ≡ answered year quarter name sheet room → lastOf written 0 ≤ room
 unfolding answered
 answer-fits year quarter name sheet room written e = rw e (go (refusalOf year quarter name sheet room) refl)
   where

@@ -1,7 +1,7 @@
-// Numbers in bytes: one of four bytes, words one behind the other, a filled buffer and the sum of a buffer.
+// Numbers in bytes: one of four bytes, words one behind the other and the sum of a buffer.
 ghost use mathlib.Core.Path.{_≡_};
 ghost use Prim.Native.Nat.{_+_, _*_, _<_, _≤_};
-ghost use lib.ListN.{length, getD, replicate};
+ghost use lib.ListN.{length, getD};
 ghost use Rattle.outside.specs.Numbers.{numberAt, wordsOf, adlerOf};
 
 // The byte at a place, 0 beyond the end.
@@ -38,17 +38,6 @@ pub fn read_words(bytes: &[u8], sheet: &mut [u32])
     let mut i = 0;
     while i < sheet.len() {
         sheet[i] = number_at(bytes, 4 * i) as u32;
-        i += 1;
-    }
-}
-
-// Every byte becomes one that no report has.
-pub fn fill(buffer: &mut [u8])
-    ensures { λ r. ⌜ now (buffer .exit) ≡ replicate (length (now (buffer .entry))) 165 ⌝ }
-{
-    let mut i = 0;
-    while i < buffer.len() {
-        buffer[i] = 0xA5;
         i += 1;
     }
 }

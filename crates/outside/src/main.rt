@@ -3,7 +3,6 @@ mod bytes_of;
 
 use bytes_of::adler;
 use bytes_of::byte_at;
-use bytes_of::fill;
 use bytes_of::number_at;
 use bytes_of::read_words;
 use libc::STDERR_FILENO;
@@ -22,7 +21,7 @@ struct Step {
 
 fn print_check(report: &[u8]) {
     let mut line = [0u8; 128];
-    let size = printing::print_answer(checker::check(report), &mut line);
+    let size = printing::print_answer(&mut line, checker::check(report));
     io::write_all(STDOUT_FILENO, &line[..size]);
 }
 
@@ -31,7 +30,7 @@ fn print_sum(word: &[u8], number: u64, bytes: &[u8])
     requires { ⌜ length (now word) ≤ 8 ⌝ }
 {
     let mut line = [0u8; 128];
-    let size = printing::print_line(word, &[number, adler(bytes)], &mut line);
+    let size = printing::print_line(&mut line, word, &[number, adler(bytes)]);
     io::write_all(STDOUT_FILENO, &line[..size]);
 }
 
@@ -57,7 +56,8 @@ fn print_written(written: Written, buffer: &[u8], last: usize) -> usize
 fn write_sheet(case: &[u8], sheet: &[u32], buffer: &mut [u8]) -> Written
     ensures { λ r. ⌜ lastOf r 0 ≤ length (now (buffer .entry)) ⌝ }
 {
-    fill(buffer);
+    // A byte that no report has.
+    filling::fill_with(buffer, 0xA5);
     let name = [
         byte_at(case, 9),
         byte_at(case, 10),

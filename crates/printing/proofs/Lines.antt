@@ -9,7 +9,7 @@ use lib.ListN.{length, drop, getD, length-append, drop-of-length-le}
 use lib.Seq.{drop-cons}
 use Rattle.columns.specs.Columns.{put}
 use Rattle.columns.specs.ColumnsLaws.{put-beside}
-use Rattle.printing.specs.Printed.{spaced, allSpaced, lineOf}
+use Rattle.printing.specs.Printed.{spaced, allSpaced, printedLine}
 
 -- the numbers from place i on, and the end of the line
 abbrev pub leftFrom : ℕ → List ℕ → List ℕ
@@ -36,11 +36,11 @@ module _ (numbers : List ℕ) (i : ℕ) where
       put-beside column (spaced (getD numbers i 0)) line fits (leftFrom (i + 1) numbers) first
       ∙ ap (λ (bs : List ℕ). put column bs line) (sym (left-one h))
 
-pub line-length : (word numbers : List ℕ) → length (lineOf word numbers) ≡ length word + length (leftFrom 0 numbers)
-unfolding lineOf
+pub line-length : (word numbers : List ℕ) → length (printedLine word numbers) ≡ length word + length (leftFrom 0 numbers)
+unfolding printedLine
 line-length word numbers = length-append word (leftFrom 0 numbers)
 
 pub line-put : (word numbers line : List ℕ) → length word ≤ length line
-    → put (1 + length word) (leftFrom 0 numbers) (put 1 word line) ≡ put 1 (lineOf word numbers) line
-unfolding lineOf
+    → put (1 + length word) (leftFrom 0 numbers) (put 1 word line) ≡ put 1 (printedLine word numbers) line
+unfolding printedLine
 line-put word numbers line h = put-beside 1 word line (omega arith) (leftFrom 0 numbers) (omega arith)

@@ -28,8 +28,8 @@ unfoldable pub allSpaced : List ℕ → List ℕ
 allSpaced [] = []
 allSpaced (v ∷ vs) = spaced v ++ allSpaced vs
 
-unfoldable pub lineOf : List ℕ → List ℕ → List ℕ
-lineOf word numbers = word ++ (allSpaced numbers ++ (10 ∷ []))
+unfoldable pub printedLine : List ℕ → List ℕ → List ℕ
+printedLine word numbers = word ++ (allSpaced numbers ++ (10 ∷ []))
 
 -- "accepted" and "refused"
 abbrev pub wordOf : Answer → List ℕ
@@ -37,7 +37,7 @@ wordOf (Accepted quarter) = 97 ∷ 99 ∷ 99 ∷ 101 ∷ 112 ∷ 116 ∷ 101 ∷
 wordOf (Refused refusal) = 114 ∷ 101 ∷ 102 ∷ 117 ∷ 115 ∷ 101 ∷ 100 ∷ []
 
 abbrev pub printed : Answer → List ℕ
-printed answer = lineOf (wordOf answer) (numbersOf answer)
+printed answer = printedLine (wordOf answer) (numbersOf answer)
 
 -- the length of a word of eight letters, five spaces and numbers of 20 digits, and byte 10
 abbrev pub longestLine : ℕ

@@ -21,11 +21,11 @@ unfolding digitCountIn
 count-more steps v h = rw (le-ltb v 10 h, digitCountIn)
 
 -- a number below 10^(k + 1) has at most k + 1 digits
-pub count-most : (k steps v : ℕ) → v < 10 ^ suc k → digitCountIn steps v ≤ suc k
+pub digit-count-most : (k steps v : ℕ) → v < 10 ^ suc k → digitCountIn steps v ≤ suc k
 unfolding digitCountIn
-count-most k zero v h = omega arith
-count-most zero (suc steps) v h = omega (arith, count-one (suc steps) v (omega (arith, pow-suc 10 0)))
-count-most (suc k) (suc steps) v h = go (count-most k steps (v / 10) (omega (arith, pow-suc 10 (suc k)))) (decLt v 10)
+digit-count-most k zero v h = omega arith
+digit-count-most zero (suc steps) v h = omega (arith, count-one (suc steps) v (omega (arith, pow-suc 10 0)))
+digit-count-most (suc k) (suc steps) v h = go (digit-count-most k steps (v / 10) (omega (arith, pow-suc 10 (suc k)))) (decLt v 10)
   where
     go : digitCountIn steps (v / 10) ≤ suc k → Dec (v < 10) → digitCountIn (suc steps) v ≤ suc (suc k)
     go ih (yes small) = omega (arith, count-one (suc steps) v small)

@@ -4,7 +4,7 @@ ghost use mathlib.Core.Path.{_≡_};
 ghost use Prim.Native.Nat.{_+_, _≤_};
 ghost use lib.ListN.{length};
 ghost use Rattle.columns.specs.Columns.{put};
-ghost use Rattle.printing.specs.Printed.{digitCount, spaced, lineOf, printed, longestLine};
+ghost use Rattle.printing.specs.Printed.{digitCount, spaced, printedLine, printed, longestLine};
 ghost use Rattle.printing.specs.Room.{NumberRoom, LineRoom};
 
 fn digit_count(value: u64) -> usize
@@ -31,9 +31,10 @@ fn print_number(line: &mut [u8], column: usize, value: u64) -> usize
 }
 
 // A word and up to five numbers, from the first column on. Returns the length of the line.
-pub fn print_line(word: &[u8], numbers: &[u64], line: &mut [u8]) -> usize
+pub fn print_line(line: &mut [u8], word: &[u8], numbers: &[u64]) -> usize
     requires { ⌜ LineRoom (now word) (now numbers) (now line) ⌝ }
-    ensures { λ r. ⌜ (r ≡ length (lineOf (now (word .entry)) (now (numbers .entry)))) × (r ≤ longestLine) × (now (line .exit) ≡ put 1 (lineOf (now (word .entry)) (now (numbers .entry))) (now (line .entry))) ⌝ }
+    ensures { λ r. ⌜ (r ≡ length (printedLine (now (word .entry)) (now (numbers .entry)))) × (r ≤ longestLine)
+        × (now (line .exit) ≡ put 1 (printedLine (now (word .entry)) (now (numbers .entry))) (now (line .entry))) ⌝ }
 {
     filling::write_bytes(line, 1, word);
     let mut column = 1 + word.len();
@@ -47,12 +48,13 @@ pub fn print_line(word: &[u8], numbers: &[u64], line: &mut [u8]) -> usize
 }
 
 // Returns the length of the line.
-pub fn print_answer(answer: Answer, line: &mut [u8]) -> usize
+pub fn print_answer(line: &mut [u8], answer: Answer) -> usize
     requires { ⌜ longestLine ≤ length (now line) ⌝ }
     ensures { λ r. ⌜ (r ≡ length (printed answer)) × (r ≤ longestLine) × (now (line .exit) ≡ put 1 (printed answer) (now (line .entry))) ⌝ }
 {
     match answer {
         Answer::Accepted(quarter) => print_line(
+            line,
             b"accepted",
             &[
                 quarter.hours,
@@ -61,12 +63,11 @@ pub fn print_answer(answer: Answer, line: &mut [u8]) -> usize
                 quarter.heat,
                 quarter.nox,
             ],
-            line,
         ),
         Answer::Refused(refusal) => print_line(
+            line,
             b"refused",
             &[refusal.number, refusal.line as u64],
-            line,
         ),
     }
 }

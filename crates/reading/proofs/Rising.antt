@@ -1,12 +1,12 @@
 -- The walk over the 200 lines, one line further: what is left from here is what the whole is, and the hours rise.
-use Prim.Native.Nat.{ℕ, zero, suc, _+_, _*_, _-_, _≤_, _<_}
+use Prim.Native.Nat.{ℕ, suc, _+_, _-_, _≤_, _<_}
 use mathlib.Core.Path.{_≡_, refl, sym, ap, _∙_}
 use mathlib.Core.List.{List, [], _∷_, _++_}
 use mathlib.Core.Bool.{true, false}
 use native.Mathlib.Omega.{arith}
 use native.Mathlib.Numerals.{add-one}
 use lib.ListN.{length, drop, length-drop}
-use Rattle.calendar.specs.Calendar.{IsQuarter}
+use Rattle.calendar.specs.Calendar.{mostHours, IsQuarter}
 use Rattle.columns.specs.Columns.{columns}
 use Rattle.layout.specs.Layout.{lengthOf, dateColumn, dateWidth}
 use Rattle.layout.specs.declared.RecordType.the-variants.{Facility, So2Concentration}
@@ -17,7 +17,7 @@ use Rattle.lines.specs.FaultLaws.{shape-length, hour-shape, hour-rises, hour-sa
 use Rattle.lines.specs.declared.Period.{Period}
 use Rattle.lines.specs.declared.HourLine.{HourLine}
 use Rattle.lines.specs.declared.HourLine.the-variants.{At, Faulty}
-use Rattle.reading.specs.Reading.{refusedAt, walkLater, walkHours}
+use Rattle.reading.specs.Reading.{stoppedAt, walkLater, walkHours}
 use Rattle.reading.specs.Places.{facilityOf, dateIn, datesIn, Counted, hourStart}
 use Rattle.reading.specs.declared.Reading.{Reading}
 use Rattle.reading.proofs.Walking.{no-lines, laterWhole}
@@ -35,7 +35,7 @@ pub record Rising (file : List ℕ) (period : Period) (n from at : ℕ) : Type 0
   pub place : at ≡ hourStart n
   pub room : hourStart n ≤ length file + 1
   pub rise : n ≤ from
-  pub most : from ≤ 2208
+  pub most : from ≤ mostHours
   pub left : walkHours (facilityOf file) period (2 + n) from (datesIn file n) (lines (drop at file)) ≡ hoursWhole file period
 
 pub rising-start : (file : List ℕ) (period : Period) → lengthOf Facility ≤ length file → Rising file period 0 0 (hourStart 0)
@@ -73,7 +73,7 @@ module _ (file : List ℕ) (period : Period) (n from at : ℕ) (w : Rising file 
         | At hour ↦
             walkHours (facilityOf file) period (2 + n + 1) (hour + 1) (datesIn file n ++ (dateOn (firstLine (drop at file)) ∷ []))
             (lines (drop (at + (length (firstLine (drop at file)) + 1)) file))
-        | Faulty number ↦ refusedAt number (2 + n)
+        | Faulty number ↦ stoppedAt number (2 + n)
       ]
 
       judged : walkHours (facilityOf file) period (2 + n) from (datesIn file n) (lines (drop at file))
@@ -82,7 +82,7 @@ module _ (file : List ℕ) (period : Period) (n from at : ℕ) (w : Rising file 
       judged = whole ∙ rw (t, walkHours)
 
       pub rising-found : (number : ℕ) → hourLine (facilityOf file) period from (firstLine (drop at file)) ≡ Faulty number →
-          refusedAt number (2 + n) ≡ hoursWhole file period
+          stoppedAt number (2 + n) ≡ hoursWhole file period
       rising-found number e = sym (judged ∙ ap after e) ∙ w .left
 
       module _ (hour : ℕ) (e : hourLine (facilityOf file) period from (firstLine (drop at file)) ≡ At hour) where
@@ -95,7 +95,7 @@ module _ (file : List ℕ) (period : Period) (n from at : ℕ) (w : Rising file 
         pub rising-room : at + lengthOf So2Concentration ≤ length file
         rising-room = omega (arith, long, line-part (drop at file), length-drop at file)
 
-        pub rising-below : IsQuarter (period .quarter) → (from ≤ hour) × (hour < 2208)
+        pub rising-below : IsQuarter (period .quarter) → (from ≤ hour) × (hour < mostHours)
         rising-below q = let r = hour-rises (facilityOf file) period from (firstLine (drop at file)) (said .0) q in rw (said .1) at r
 
         date-first : dateOn (firstLine (drop at file)) ≡ dateIn file n

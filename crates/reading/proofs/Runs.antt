@@ -15,7 +15,7 @@ use Rattle.layout.specs.declared.RecordType.the-variants.{Facility, So2Concentr
 use Rattle.layout.specs.declared.Run.{Run}
 use Rattle.layout.specs.declared.Run.the-variants.{Once, Hourly}
 use Rattle.layout.specs.declared.Row.{Row}
-use Rattle.lines.specs.LineFaults.{Due, dueOf}
+use Rattle.lines.specs.LineFaults.{dueOf}
 use Rattle.reading.specs.Reading.{datesOf, runOf, runsOf}
 use Rattle.reading.specs.Places.{hourStart, dateIn, datesIn, dateFor, dateDue}
 
@@ -37,7 +37,8 @@ dates-at file (suc n) k h = go (dates-at file n k) (decLt k n)
         List·getD-append (datesIn file n) (dateIn file n ∷ []) [] k m ∙ ih l
     go ih (no l) =
         let e : k ≡ n = omega arith in
-        rw e (ap (λ (i : ℕ). getD (datesIn file n ++ (dateIn file n ∷ [])) i []) (sym (dates-length file n)) ∙ getD-append-seam (datesIn file n) (dateIn file n) [] [])
+        rw e (ap (λ (i : ℕ). getD (datesIn file n ++ (dateIn file n ∷ [])) i []) (sym (dates-length file n))
+        ∙ getD-append-seam (datesIn file n) (dateIn file n) [] [])
 
 -- the lines of one type that are due
 

@@ -4,7 +4,7 @@ use mathlib.Core.Path.{_≡_, refl, sym, ap, subst, _∙_}
 use mathlib.Core.List.{List, [], _∷_}
 use native.Mathlib.Omega.{arith}
 use lib.ListN.{length, drop, getD}
-use borrow.Author.Tests.{eq-eqb, ne-eqb}
+use borrow.Author.Tests.{ne-eqb}
 use Rattle.calendar.specs.Calendar.{IsQuarter}
 use Rattle.layout.specs.Layout.{lengthOf, quarterDigit, Within}
 use Rattle.layout.specs.declared.RecordType.the-variants.{Facility}
@@ -16,7 +16,8 @@ use Rattle.lines.specs.FaultLaws.{shape-length, facility-shape, facility-quarte
 use Rattle.lines.specs.declared.Period.{Period}
 use Rattle.lines.specs.declared.FacilityLine.{FacilityLine}
 use Rattle.lines.specs.declared.FacilityLine.the-variants.{Of, Faulty}
-use Rattle.reading.specs.Reading.{refusedAt, walkHours, walk, readOf}
+use Rattle.reading.specs.CleanLaws.{ended-walked}
+use Rattle.reading.specs.Reading.{stoppedAt, walkHours, walk, readOf}
 use Rattle.reading.specs.Places.{facilityOf, hourStart}
 use Rattle.reading.specs.declared.Reading.{Reading}
 
@@ -28,29 +29,28 @@ last-at (b ∷ c ∷ bs) h =
     let e : length (b ∷ c ∷ bs) - 1 ≡ suc (length (c ∷ bs) - 1) = omega arith in
     rw e (last-at (c ∷ bs) (omega arith))
 
-pub read-empty : (l : List ℕ) → length l ≡ 0 → readOf l ≡ refusedAt 1 0
+pub read-empty : (l : List ℕ) → length l ≡ 0 → readOf l ≡ stoppedAt 1 0
 unfolding readOf last
 read-empty [] h = refl
 read-empty (b ∷ bs) h = absurd (omega arith)
 
 module _ (l : List ℕ) (h : 0 < length l) where
-  pub read-open : (getD l (length l - 1) 0 ≡ 10 → ⊥) → readOf l ≡ refusedAt 1 0
+  pub read-open : (getD l (length l - 1) 0 ≡ 10 → ⊥) → readOf l ≡ stoppedAt 1 0
   unfolding readOf
   read-open n = rw (last-at l h, ne-eqb (getD l (length l - 1) 0) 10 n, readOf)
 
   pub read-ended : getD l (length l - 1) 0 ≡ 10 → readOf l ≡ walk (lines l)
-  unfolding readOf
-  read-ended e = rw (last-at l h, eq-eqb (getD l (length l - 1) 0) 10 e, readOf)
+  read-ended e = ended-walked l (last-at l h ∙ e)
 
   -- what line 100 decides
   abbrev after : FacilityLine → Reading
-  after f = elim f [ Of period ↦ walkHours (firstLine l) period 2 0 [] (lines (drop (0 + (length (firstLine l) + 1)) l)) | Faulty number ↦ refusedAt number 1 ]
+  after f = elim f [ Of period ↦ walkHours (firstLine l) period 2 0 [] (lines (drop (0 + (length (firstLine l) + 1)) l)) | Faulty number ↦ stoppedAt number 1 ]
 
   started : walk (lines l) ≡ after (facilityLine (firstLine l))
   unfolding walk
   started = ap walk (lines-at l 0 h)
 
-  pub walk-found : (number : ℕ) → facilityLine (firstLine l) ≡ Faulty number → refusedAt number 1 ≡ walk (lines l)
+  pub walk-found : (number : ℕ) → facilityLine (firstLine l) ≡ Faulty number → stoppedAt number 1 ≡ walk (lines l)
   walk-found number e = sym (started ∙ ap after e)
 
   module _ (period : Period) (e : facilityLine (firstLine l) ≡ Of period) where

@@ -1,10 +1,9 @@
 -- The walk over the lines that are due, one line further: what is left from here is what the whole is.
-use Prim.Native.Nat.{ℕ, zero, suc, _+_, _*_, _-_, _≤_, _<_}
+use Prim.Native.Nat.{ℕ, zero, suc, _+_, _-_, _≤_, _<_}
 use mathlib.Core.Path.{_≡_, refl, sym, ap, _∙_}
 use mathlib.Core.List.{List, [], _∷_, _++_}
 use native.Mathlib.Omega.{arith}
-use lib.ListN.{length, take, drop, length-drop, drop-of-length-le}
-use lib.Seq.{take-all}
+use lib.ListN.{length, drop, length-drop, drop-of-length-le}
 use Rattle.layout.specs.Layout.{lengthOf, order, typeAt, countOf, shape}
 use Rattle.layout.specs.declared.RecordType.{RecordType}
 use Rattle.lines.specs.Lines.{firstLine, lines}
@@ -12,16 +11,12 @@ use Rattle.lines.specs.LineLaws.{lines-at, line-part}
 use Rattle.lines.specs.LineFaults.{Due, dueOf, dueFault}
 use Rattle.lines.specs.FaultLaws.{shape-length, due-shape}
 use Rattle.lines.specs.declared.Period.{Period}
-use Rattle.reading.specs.Reading.{refusedAt, runOf, runsOf, reportOf, walkDue, walkLater}
+use Rattle.reading.specs.Reading.{stoppedAt, runOf, runsOf, reportOf, walkDue, walkLater}
 use Rattle.reading.specs.Places.{facilityOf, datesIn, Counted, dateDue, hourStart}
 use Rattle.reading.specs.declared.Report.{Report}
 use Rattle.reading.specs.declared.Reading.{Reading}
 use Rattle.reading.specs.declared.Reading.the-variants.{Clean}
 use Rattle.reading.proofs.Runs.{run-one, run-end, runs-one, runs-end}
-
--- a part of a file to its end
-pub rest-part : (at : ℕ) (file : List ℕ) → take (length file - at) (drop at file) ≡ drop at file
-rest-part at file = take-all (length file - at) (drop at file) (rw length-drop (omega arith))
 
 pub no-lines : (file : List ℕ) (at : ℕ) → length file ≤ at → lines (drop at file) ≡ []
 unfolding lines
@@ -29,33 +24,33 @@ no-lines file at h = rw (drop-of-length-le file h)
 
 -- what a line's fault decides
 module _ (f g line : ℕ) (next : Reading) (e : f ≡ g) where
-  pub found : (f ≡ 0 → ⊥) → elim g [ zero ↦ next | suc c ↦ refusedAt (suc c) line ] ≡ refusedAt f line
+  pub found : (f ≡ 0 → ⊥) → elim g [ zero ↦ next | suc c ↦ stoppedAt (suc c) line ] ≡ stoppedAt f line
   found n = rw (← e) (go f n)
     where
-      go : (k : ℕ) → (k ≡ 0 → ⊥) → elim k [ zero ↦ next | suc c ↦ refusedAt (suc c) line ] ≡ refusedAt k line
+      go : (k : ℕ) → (k ≡ 0 → ⊥) → elim k [ zero ↦ next | suc c ↦ stoppedAt (suc c) line ] ≡ stoppedAt k line
       go zero m = absurd (m refl)
       go (suc c) m = refl
 
-  pub passed : f ≡ 0 → elim g [ zero ↦ next | suc c ↦ refusedAt (suc c) line ] ≡ next
+  pub passed : f ≡ 0 → elim g [ zero ↦ next | suc c ↦ stoppedAt (suc c) line ] ≡ next
   passed z = rw (← e, z)
 
 -- against what is due
 
 module _ (report : Report) (facility : List ℕ) (line : ℕ) (file : List ℕ) (at : ℕ) where
-  pub due-over : at < length file → walkDue report facility line [] (lines (drop at file)) ≡ refusedAt 2 line
+  pub due-over : at < length file → walkDue report facility line [] (lines (drop at file)) ≡ stoppedAt 2 line
   unfolding walkDue
   due-over h = rw (lines-at file at h)
 
-  pub due-clean : length file ≤ at → walkDue report facility line [] (lines (drop at file)) ≡ Clean report
+  pub due-done : length file ≤ at → walkDue report facility line [] (lines (drop at file)) ≡ Clean report
   unfolding walkDue
-  due-clean h = rw (no-lines file at h)
+  due-done h = rw (no-lines file at h)
 
-  pub due-missing : (d : Due) (ds : List Due) → length file ≤ at → walkDue report facility line (d ∷ ds) (lines (drop at file)) ≡ refusedAt 10 line
+  pub due-missing : (d : Due) (ds : List Due) → length file ≤ at → walkDue report facility line (d ∷ ds) (lines (drop at file)) ≡ stoppedAt 10 line
   unfolding walkDue
   due-missing d ds h = rw (no-lines file at h)
 
   module _ (h : at < length file) (d : Due) (ds : List Due) (f : ℕ) (e : f ≡ dueFault facility d (firstLine (drop at file))) where
-    pub due-found : (f ≡ 0 → ⊥) → walkDue report facility line (d ∷ ds) (lines (drop at file)) ≡ refusedAt f line
+    pub due-found : (f ≡ 0 → ⊥) → walkDue report facility line (d ∷ ds) (lines (drop at file)) ≡ stoppedAt f line
     unfolding walkDue
     due-found n = ap (walkDue report facility line (d ∷ ds)) (lines-at file at h) ∙ found f _ line _ e n
 
@@ -98,14 +93,14 @@ module _ (file : List ℕ) (period : Period) (n : ℕ) where
     walked-type place t h e w = rw (e, ← runs-one place (datesIn file n) h) w
 
     pub walked-over : (place : ℕ) → length order ≤ place → at < length file → Walked file period n at line (runsOf (drop place order) (datesIn file n)) →
-        refusedAt 2 line ≡ laterWhole file period n
+        stoppedAt 2 line ≡ laterWhole file period n
     walked-over place h k w =
         sym (due-over (reportIn file period n) (facilityOf file) line file at k) ∙ rw (← runs-end place (datesIn file n) h) (w .left)
 
     pub walked-clean : (place : ℕ) → length order ≤ place → length file ≤ at → Walked file period n at line (runsOf (drop place order) (datesIn file n)) →
         Clean (reportIn file period n) ≡ laterWhole file period n
     walked-clean place h k w =
-        sym (due-clean (reportIn file period n) (facilityOf file) line file at k) ∙ rw (← runs-end place (datesIn file n) h) (w .left)
+        sym (due-done (reportIn file period n) (facilityOf file) line file at k) ∙ rw (← runs-end place (datesIn file n) h) (w .left)
 
     module _ (t : RecordType) (k : ℕ) (ds : List Due) (w : Walked file period n at line (drop k (runOf t (datesIn file n)) ++ ds)) where
       pub walked-run : countOf (shape n) t ≤ k → Walked file period n at line ds
@@ -115,12 +110,12 @@ module _ (file : List ℕ) (period : Period) (n : ℕ) where
       next : k < countOf (shape n) t → Walked file period n at line (dueOf t (dateDue file t k) ∷ (drop (k + 1) (runOf t (datesIn file n)) ++ ds))
       next h = rw (run-one file n t k h) at w
 
-      pub walked-missing : k < countOf (shape n) t → length file ≤ at → refusedAt 10 line ≡ laterWhole file period n
+      pub walked-missing : k < countOf (shape n) t → length file ≤ at → stoppedAt 10 line ≡ laterWhole file period n
       walked-missing h p = sym (due-missing (reportIn file period n) (facilityOf file) line file at _ _ p) ∙ next h .left
 
       module _ (h : k < countOf (shape n) t) (p : at < length file) (f : ℕ)
           (e : f ≡ dueFault (facilityOf file) (dueOf t (dateDue file t k)) (firstLine (drop at file))) where
-        pub walked-found : (f ≡ 0 → ⊥) → refusedAt f line ≡ laterWhole file period n
+        pub walked-found : (f ≡ 0 → ⊥) → stoppedAt f line ≡ laterWhole file period n
         walked-found m = sym (due-found (reportIn file period n) (facilityOf file) line file at p _ _ f e m) ∙ next h .left
 
         pub walked-room : f ≡ 0 → at + lengthOf t ≤ length file

@@ -1,7 +1,7 @@
 -- A file whose lines are right: what the crates above use of it.
-use Prim.Native.Nat.{ℕ, zero, suc, _+_, _*_, _≤_, _<_}
-use mathlib.Core.Path.{_≡_, refl, sym, ap, subst, _∙_}
-use mathlib.Core.List.{List, [], _∷_}
+use Prim.Native.Nat.{ℕ, _+_, _*_, _≤_, _<_}
+use mathlib.Core.Path.{_≡_, refl, sym, subst, _∙_}
+use mathlib.Core.List.{List, []}
 use mathlib.Core.Bool.{Bool, true, false}
 use native.Mathlib.Omega.{arith}
 use native.Mathlib.Decide.{decLt}
@@ -9,29 +9,29 @@ use lib.Dec.{eqb}
 use lib.ListN.{length, take, drop, drop-of-length-le}
 use borrow.Author.Tests.{eqb-true}
 use Rattle.calendar.specs.Calendar.{IsQuarter}
-use Rattle.exact.specs.Sums.{totalOf}
-use Rattle.layout.specs.Layout.{lengthOf, valueCount, valuesOf, valueAt, noValue, yearDigits, quarterDigit, order, countOf, bytesOf, offsetOf, reportLength, Within}
+use Rattle.layout.specs.Layout.{lengthOf, valueCount, valuesOf, valueAt, noValue, yearDigits, quarterDigit, order, countOf, offsetOf}
+use Rattle.layout.specs.Layout.{reportLength, Within}
 use Rattle.layout.specs.declared.RecordType.{RecordType}
-use Rattle.layout.specs.declared.RecordType.the-variants.{Facility, So2Concentration, NoxConcentration, Co2Concentration, VolumetricFlow, Operation, QuarterTotals, So2Mass, NoxRate, Co2Mass}
+use Rattle.layout.specs.declared.RecordType.the-variants.{Facility, So2Concentration, NoxConcentration, Co2Concentration, VolumetricFlow, Operation}
+use Rattle.layout.specs.declared.RecordType.the-variants.{So2Mass, NoxRate, Co2Mass}
 use Rattle.layout.specs.declared.Shape.{Shape}
 use Rattle.stamp.specs.StampLaws.{is-quarter}
 use Rattle.formulas.specs.Hour.{HourWithin}
 use Rattle.lines.specs.Lines.{firstLine, lines, last}
 use Rattle.lines.specs.LineLaws.{lines-at, line-at}
-use Rattle.lines.specs.LineFaults.{valuesFault, periodOn, facilityFault, facilityLine}
+use Rattle.lines.specs.LineFaults.{valuesFault, facilityFault, facilityLine}
 use Rattle.lines.specs.FaultLaws.{shape-type, shape-length, values-within, facility-shape, facility-year, facility-quarter, facility-said}
 use Rattle.lines.specs.EndLaws.{line-within}
 use Rattle.lines.specs.declared.Period.{Period}
 use Rattle.lines.specs.declared.FacilityLine.{FacilityLine}
 use Rattle.lines.specs.declared.FacilityLine.the-variants.{Of, Faulty as FaultyFacility}
-use Rattle.reading.specs.Reading.{refusedAt, walkHours, walk, readOf}
+use Rattle.reading.specs.Reading.{stoppedAt, walkHours, walk, readOf}
 use Rattle.reading.specs.Recorded.{valueOn, hourAt}
 use Rattle.reading.specs.Places.{Standing, hourStart}
 use Rattle.reading.specs.CleanLaws.{never-clean, LineRight, RunsRight, runs-size, order-line}
 use Rattle.reading.specs.HoursLaws.{HoursRight, hours-right}
 use Rattle.reading.specs.RecordLaws.{records-placed, record-at}
 use Rattle.reading.specs.declared.Report.{Report}
-use Rattle.reading.specs.declared.Reading.{Reading}
 use Rattle.reading.specs.declared.Reading.the-variants.{Clean}
 
 pub record CleanFile (file : List ℕ) (r : Report) : Type 0 where
@@ -99,7 +99,7 @@ walked file ends r w = go (decLt 0 (length file))
     first = firstLine (drop 0 file)
 
     after : (f : FacilityLine) → facilityLine first ≡ f → 0 < length file →
-        elim f [ Of period ↦ walkHours first period 2 0 [] (lines (drop (0 + (length first + 1)) file)) | FaultyFacility number ↦ refusedAt number 1 ]
+        elim f [ Of period ↦ walkHours first period 2 0 [] (lines (drop (0 + (length first + 1)) file)) | FaultyFacility number ↦ stoppedAt number 1 ]
         ≡ Clean r → CleanFile file r
     after (FaultyFacility number) e b v = never-clean number 1 r v
     after (Of period) e b v =
@@ -139,6 +139,6 @@ pub clean-file : (file : List ℕ) (r : Report) → readOf file ≡ Clean r → 
 unfolding readOf
 clean-file file r e = go (eqb (last file) 10) refl e
   where
-    go : (t : Bool) → eqb (last file) 10 ≡ t → elim t [ true ↦ walk (lines file) | false ↦ refusedAt 1 0 ] ≡ Clean r → CleanFile file r
+    go : (t : Bool) → eqb (last file) 10 ≡ t → elim t [ true ↦ walk (lines file) | false ↦ stoppedAt 1 0 ] ≡ Clean r → CleanFile file r
     go true k w = walked file (eqb-true (last file) 10 k) r w
     go false k w = never-clean 1 0 r w

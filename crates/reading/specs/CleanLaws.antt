@@ -1,13 +1,13 @@
 -- What a file whose lines are right is like: its length, and where each of its lines stands.
 use Prim.Native.Nat.{ℕ, zero, suc, _+_, _*_, _≤_, _<_}
-use mathlib.Core.Path.{_≡_, refl, sym, ap, _∙_}
+use mathlib.Core.Path.{_≡_, refl}
 use mathlib.Core.List.{List, [], _∷_, _++_, map}
 use mathlib.Core.Bool.{Bool, true, false, cond}
 use native.Mathlib.Omega.{arith}
 use native.Mathlib.Decide.{decLt}
 use native.Mathlib.Nat.{not-suc-le-zero, le-of-suc-le-suc}
 use lib.Dec.{eqb}
-use borrow.Author.Tests.{eqb-true}
+use borrow.Author.Tests.{eqb-true, eq-eqb}
 use Rattle.exact.specs.Sums.{totalOf}
 use lib.ListN.{length, take, drop, drop-of-length-le}
 use Rattle.layout.specs.Layout.{codeOf, lengthOf, valuesOf, recordOf, linesOf, order, placeOf, earlier, countOf, bytesOf, offsetOf, shape}
@@ -23,10 +23,9 @@ use Rattle.lines.specs.LineLaws.{lines-at, line-at}
 use Rattle.lines.specs.LineFaults.{typeIs, valuesFault, Due, dueOf, dueFault}
 use Rattle.lines.specs.FaultLaws.{shape-type, shape-length, due-shape, due-values}
 use Rattle.lines.specs.EndLaws.{line-within}
-use Rattle.reading.specs.Reading.{refusedAt, datesOf, runOf, runsOf, walkDue}
+use Rattle.reading.specs.Reading.{stoppedAt, datesOf, runOf, runsOf, walkDue, walk, readOf}
 use Rattle.reading.specs.declared.Report.{Report}
-use Rattle.reading.specs.declared.Reading.{Reading}
-use Rattle.reading.specs.declared.Reading.the-variants.{Clean, Refused}
+use Rattle.reading.specs.declared.Reading.the-variants.{Clean}
 
 -- each line is the one that is due, without fault
 abbrev pub Matches : List ℕ → List Due → List (List ℕ) → Type 0
@@ -35,7 +34,12 @@ Matches facility [] (l ∷ ls) = ⊥
 Matches facility (d ∷ ds) [] = ⊥
 Matches facility (d ∷ ds) (l ∷ ls) = (dueFault facility d l ≡ 0) × Matches facility ds ls
 
-pub never-clean : {A : Type 0} (number line : ℕ) (r : Report) → refusedAt number line ≡ Clean r → A
+-- a file that ends in byte 10 is walked
+pub ended-walked : (file : List ℕ) → last file ≡ 10 → readOf file ≡ walk (lines file)
+unfolding readOf
+ended-walked file e = rw (eq-eqb (last file) 10 e, readOf)
+
+pub never-clean : {A : Type 0} (number line : ℕ) (r : Report) → stoppedAt number line ≡ Clean r → A
 never-clean number line r e = absurd (let z : _≡_ {A = ℕ} 0 1 = cc in omega arith)
 
 pub due-clean : (report : Report) (facility : List ℕ) (line : ℕ) (due : List Due) (ls : List (List ℕ)) (r : Report) →
@@ -46,8 +50,9 @@ due-clean report facility line [] (l ∷ ls) r e = never-clean 2 line r e
 due-clean report facility line (d ∷ ds) [] r e = never-clean 10 line r e
 due-clean report facility line (d ∷ ds) (l ∷ ls) r e = go (dueFault facility d l) refl e (due-clean report facility (line + 1) ds ls r)
   where
-    go : (f : ℕ) → dueFault facility d l ≡ f → elim f [ zero ↦ walkDue report facility (line + 1) ds ls | suc c ↦ refusedAt (suc c) line ] ≡ Clean r →
-        (walkDue report facility (line + 1) ds ls ≡ Clean r → (report ≡ r) × Matches facility ds ls) → (report ≡ r) × ((dueFault facility d l ≡ 0) × Matches facility ds ls)
+    go : (f : ℕ) → dueFault facility d l ≡ f → elim f [ zero ↦ walkDue report facility (line + 1) ds ls | suc c ↦ stoppedAt (suc c) line ] ≡ Clean r →
+        (walkDue report facility (line + 1) ds ls ≡ Clean r → (report ≡ r) × Matches facility ds ls) →
+        (report ≡ r) × ((dueFault facility d l ≡ 0) × Matches facility ds ls)
     go zero k w ih = let m = ih w in (m .0, (k, m .1))
     go (suc c) k w ih = never-clean (suc c) line r w
 

@@ -1,5 +1,5 @@
 -- The 200 lines of a file whose lines are right: each stands in its place, and there are no more than a quarter has hours.
-use Prim.Native.Nat.{ℕ, zero, suc, _+_, _*_, _≤_, _<_}
+use Prim.Native.Nat.{ℕ, suc, _+_, _≤_, _<_}
 use mathlib.Core.Path.{_≡_, refl, sym, ap, subst₂, _∙_}
 use mathlib.Core.List.{List, [], _∷_, _++_}
 use mathlib.Core.Bool.{Bool, true, false}
@@ -8,19 +8,19 @@ use native.Mathlib.Omega.{arith}
 use native.Mathlib.Decide.{decLt}
 use native.Mathlib.Nat.{eq-or-lt-of-le}
 use lib.ListN.{length, take, drop, drop-of-length-le, length-append}
-use Rattle.calendar.specs.Calendar.{IsQuarter}
+use Rattle.calendar.specs.Calendar.{mostHours, IsQuarter}
 use Rattle.layout.specs.Layout.{lengthOf, shape}
 use Rattle.layout.specs.declared.RecordType.the-variants.{So2Concentration}
 use Rattle.layout.specs.declared.Shape.{Shape}
 use Rattle.lines.specs.Lines.{firstLine, lines, last}
 use Rattle.lines.specs.LineLaws.{lines-at, line-at}
-use Rattle.lines.specs.LineFaults.{typeIs, dateOn, hourOn, hourFault, hourNumber, hourLine}
+use Rattle.lines.specs.LineFaults.{typeIs, dateOn, hourFault, hourLine}
 use Rattle.lines.specs.FaultLaws.{shape-type, shape-length, hour-shape, hour-values, hour-rises, hour-said}
 use Rattle.lines.specs.EndLaws.{line-within}
 use Rattle.lines.specs.declared.Period.{Period}
 use Rattle.lines.specs.declared.HourLine.{HourLine}
 use Rattle.lines.specs.declared.HourLine.the-variants.{At, Faulty as FaultyHour}
-use Rattle.reading.specs.Reading.{refusedAt, laterTypes, runsOf, reportOf, walkLater, walkHours}
+use Rattle.reading.specs.Reading.{stoppedAt, laterTypes, runsOf, reportOf, walkLater, walkHours}
 use Rattle.reading.specs.Places.{hourStart}
 use Rattle.reading.specs.CleanLaws.{never-clean, due-clean, LineRight, RunsRight, runs-right}
 use Rattle.reading.specs.declared.Report.{Report}
@@ -32,12 +32,12 @@ module _ (file : List ℕ) (ends : last file ≡ 10) (facility : List ℕ) (peri
   pub record HoursRight (k : ℕ) (r : Report) : Type 0 where
     pub report : r .period ≡ period
     pub more : k ≤ r .shape .hours
-    pub most : r .shape .hours ≤ 2208
+    pub most : r .shape .hours ≤ mostHours
     pub each : (j : ℕ) → k ≤ j → j < r .shape .hours → LineRight file ends facility So2Concentration (hourStart j)
     pub later : RunsRight file ends facility laterTypes (r .shape) (hourStart (r .shape .hours))
 
   after-hours : (line k : ℕ) (dates ls : List (List ℕ)) (r : Report) → lines (drop (hourStart k) file) ≡ ls → hourStart k ≤ length file → length dates ≡ k →
-      k ≤ 2208 →
+      k ≤ mostHours →
       walkLater facility period line dates ls ≡ Clean r → HoursRight k r
   unfolding walkLater
   after-hours line k dates ls r e b l m w =
@@ -91,7 +91,7 @@ module _ (file : List ℕ) (ends : last file ≡ 10) (facility : List ℕ) (peri
 
   pub hours-right : (ls : List (List ℕ)) (line from k : ℕ) (dates : List (List ℕ)) (r : Report) → lines (drop (hourStart k) file) ≡ ls →
       hourStart k ≤ length file →
-      length dates ≡ k → k ≤ from → from ≤ 2208 → walkHours facility period line from dates ls ≡ Clean r → HoursRight k r
+      length dates ≡ k → k ≤ from → from ≤ mostHours → walkHours facility period line from dates ls ≡ Clean r → HoursRight k r
   unfolding walkHours
   hours-right [] line from k dates r e b l p q w = after-hours line k dates [] r e b l (omega arith) w
   hours-right (x ∷ ls) line from k dates r e b l p q w =
@@ -102,11 +102,11 @@ module _ (file : List ℕ) (ends : last file ≡ 10) (facility : List ℕ) (peri
       next hour = walkHours facility period (line + 1) (hour + 1) (dates ++ (dateOn x ∷ [])) ls
 
       said : HourLine → Reading
-      said h = elim h [ At hour ↦ next hour | FaultyHour number ↦ refusedAt number line ]
+      said h = elim h [ At hour ↦ next hour | FaultyHour number ↦ stoppedAt number line ]
 
       go : (t : Bool) → elim t [ false ↦ walkLater facility period line dates (x ∷ ls) | true ↦ said (hourLine facility period from x) ] ≡ Clean r →
           (h : HourLine) → hourLine facility period from x ≡ h →
-          ((hour : ℕ) → lines (drop (hourStart (suc k)) file) ≡ ls → hourStart (suc k) ≤ length file → suc k ≤ hour + 1 → hour + 1 ≤ 2208 → next hour
+          ((hour : ℕ) → lines (drop (hourStart (suc k)) file) ≡ ls → hourStart (suc k) ≤ length file → suc k ≤ hour + 1 → hour + 1 ≤ mostHours → next hour
           ≡ Clean r → HoursRight (suc k) r) →
           HoursRight k r
       go false v h g ih = after-hours line k dates (x ∷ ls) r e b l (omega arith) v

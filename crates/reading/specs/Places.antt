@@ -4,6 +4,7 @@ use Prim.Native.Nat.{ℕ, zero, suc, _+_, _≤_}
 use mathlib.Core.Path.{_≡_}
 use mathlib.Core.List.{List, [], _∷_, _++_}
 use lib.ListN.{length, take, drop}
+use Rattle.calendar.specs.Calendar.{mostHours}
 use Rattle.columns.specs.Columns.{columns}
 use Rattle.layout.specs.Layout.{recordOf, lengthOf, dateColumn, dateWidth, countOf, lineOf, offsetOf, reportLength, Held, shape}
 use Rattle.layout.specs.declared.RecordType.{RecordType}
@@ -31,7 +32,7 @@ datesIn file (suc n) = datesIn file n ++ (dateIn file n ∷ [])
 
 -- n 200 lines are read
 pub record Counted (file : List ℕ) (n : ℕ) : Type 0 where
-  pub most : n ≤ 2208
+  pub most : n ≤ mostHours
   pub room : hourStart n ≤ length file + 1
 
 -- the date and hour that the line of rank k of a type must have

@@ -12,17 +12,14 @@ use Rattle.layout.specs.declared.Run.the-variants.{Once, Hourly}
 use Rattle.lines.specs.Lines.{lines, last}
 use Rattle.lines.specs.LineFaults.{typeIs, facilityLine, dateOn, hourLine, Due, dueOf, dueFault}
 use Rattle.lines.specs.declared.Period.{Period}
-use Rattle.lines.specs.declared.FacilityLine.{FacilityLine}
 use Rattle.lines.specs.declared.FacilityLine.the-variants.{Of, Faulty as FaultyFacility}
-use Rattle.lines.specs.declared.HourLine.{HourLine}
 use Rattle.lines.specs.declared.HourLine.the-variants.{At, Faulty as FaultyHour}
 use Rattle.reading.specs.declared.Report.{Report}
-use Rattle.reading.specs.declared.Refusal.{Refusal}
 use Rattle.reading.specs.declared.Reading.{Reading}
 use Rattle.reading.specs.declared.Reading.the-variants.{Clean, Refused}
 
-abbrev pub refusedAt : ℕ → ℕ → Reading
-refusedAt number line = Refused (record { number = number; line = line })
+abbrev pub stoppedAt : ℕ → ℕ → Reading
+stoppedAt number line = Refused (record { number = number; line = line })
 
 -- the lines that follow 200 lines of these dates and hours
 
@@ -47,10 +44,10 @@ reportOf period dates = record { period = period; shape = shape (length dates) }
 -- the lines from `line` on against those that are due
 unfoldable pub walkDue : Report → List ℕ → ℕ → List Due → List (List ℕ) → Reading
 walkDue report facility line [] [] = Clean report
-walkDue report facility line [] (l ∷ ls) = refusedAt 2 line
-walkDue report facility line (d ∷ ds) [] = refusedAt 10 line
+walkDue report facility line [] (l ∷ ls) = stoppedAt 2 line
+walkDue report facility line (d ∷ ds) [] = stoppedAt 10 line
 walkDue report facility line (d ∷ ds) (l ∷ ls) =
-    elim (dueFault facility d l) [ zero ↦ walkDue report facility (line + 1) ds ls | suc c ↦ refusedAt (suc c) line ]
+    elim (dueFault facility d l) [ zero ↦ walkDue report facility (line + 1) ds ls | suc c ↦ stoppedAt (suc c) line ]
 
 -- after the last 200 line
 unfoldable pub walkLater : List ℕ → Period → ℕ → List (List ℕ) → List (List ℕ) → Reading
@@ -65,13 +62,13 @@ walkHours facility period line from dates (l ∷ ls) =
       | true ↦
           elim (hourLine facility period from l) [
             | At hour ↦ walkHours facility period (line + 1) (hour + 1) (dates ++ (dateOn l ∷ [])) ls
-            | FaultyHour number ↦ refusedAt number line
+            | FaultyHour number ↦ stoppedAt number line
           ]
     ]
 
 unfoldable pub walk : List (List ℕ) → Reading
-walk [] = refusedAt 10 1
-walk (l ∷ ls) = elim (facilityLine l) [ Of period ↦ walkHours l period 2 0 [] ls | FaultyFacility number ↦ refusedAt number 1 ]
+walk [] = stoppedAt 10 1
+walk (l ∷ ls) = elim (facilityLine l) [ Of period ↦ walkHours l period 2 0 [] ls | FaultyFacility number ↦ stoppedAt number 1 ]
 
 unfoldable pub readOf : List ℕ → Reading
-readOf file = elim (eqb (last file) 10) [ true ↦ walk (lines file) | false ↦ refusedAt 1 0 ]
+readOf file = elim (eqb (last file) 10) [ true ↦ walk (lines file) | false ↦ stoppedAt 1 0 ]

@@ -1,10 +1,11 @@
 -- Of a file whose lines are right, the records of each type are those that stand where the layout has them.
 use Prim.Native.Nat.{ℕ, zero, suc, _+_, _*_, _≤_, _<_}
-use mathlib.Core.Path.{_≡_, refl, sym, ap, _∙_}
+use mathlib.Core.Path.{_≡_, refl, ap, _∙_}
 use mathlib.Core.List.{List, [], _∷_, _++_}
 use native.Mathlib.Omega.{arith}
 use native.Mathlib.Nat.{le-of-suc-le-suc, not-suc-le-zero}
 use lib.ListN.{length, take, drop, getD, drop-of-length-le}
+use Rattle.calendar.specs.Calendar.{mostHours}
 use Rattle.columns.specs.Columns.{columns}
 use Rattle.columns.specs.Number.{fieldOf, numberOf}
 use Rattle.exact.specs.Sums.{totalOf}
@@ -18,7 +19,7 @@ use Rattle.layout.specs.declared.Shape.{Shape}
 use Rattle.lines.specs.Lines.{lines, last}
 use Rattle.lines.specs.LineFaults.{typeIs}
 use Rattle.lines.specs.FaultLaws.{columns-of-line}
-use Rattle.reading.specs.Recorded.{Line, linesWith, recordsOf, recordAt, valueOn, hourCount}
+use Rattle.reading.specs.Recorded.{linesWith, recordsOf, recordAt, valueOn, hourCount}
 use Rattle.reading.specs.Places.{linesAt, numbered, Standing}
 use Rattle.reading.specs.RunLaws.{LineRun, AllOf, Typed, joined, runsFrom, order-chosen, numbered-length, numbered-at}
 use Rattle.reading.specs.CleanLaws.{LineRight, RunsRight}
@@ -83,7 +84,7 @@ module _ (file : List ℕ) (ends : last file ≡ 10) (facility : List ℕ) where
 
 -- every record lies within the file
 pub room-for : (file : List ℕ) (s : Shape) → Standing file s → (t : RecordType) (k : ℕ) → k < countOf s t →
-    (offsetOf s t k + lengthOf t ≤ length file) × (k ≤ 2208)
+    (offsetOf s t k + lengthOf t ≤ length file) × (k ≤ mostHours)
 room-for file s d t k h = (omega (arith, line-inside s t k h, d .size), omega (arith, count-most s (d .held) t))
 
 module _ (file : List ℕ) (s : Shape) (d : Standing file s) (t : RecordType) (k : ℕ) (h : k < countOf s t) where

@@ -1,12 +1,14 @@
 -- What the lines of a report say: the records of each type in file order, each with its line, and the hours and totals recorded on them.
-use Prim.Native.Nat.{ℕ, zero, suc}
+use Prim.Native.Nat.{ℕ, suc}
 use mathlib.Core.List.{List, [], _∷_}
 use mathlib.Core.Bool.{Bool, true, false}
 use lib.ListN.{length, getD}
+use Rattle.exact.specs.Logic.{ranked}
 use Rattle.columns.specs.Number.{numberOf}
 use Rattle.layout.specs.Layout.{valueAt}
 use Rattle.layout.specs.declared.RecordType.{RecordType}
-use Rattle.layout.specs.declared.RecordType.the-variants.{So2Concentration, NoxConcentration, Co2Concentration, VolumetricFlow, Operation, QuarterTotals, So2Mass, NoxRate, Co2Mass}
+use Rattle.layout.specs.declared.RecordType.the-variants.{So2Concentration, NoxConcentration, Co2Concentration, VolumetricFlow, Operation}
+use Rattle.layout.specs.declared.RecordType.the-variants.{QuarterTotals, So2Mass, NoxRate, Co2Mass}
 use Rattle.formulas.specs.declared.hour.Hour.{Hour}
 use Rattle.totals.specs.declared.Quarter.{Quarter}
 use Rattle.lines.specs.Lines.{lines}
@@ -54,18 +56,13 @@ hourAt file k = record {
   };
 }
 
--- so many hours from k on
-unfoldable pub hoursFrom : List ℕ → ℕ → ℕ → List Hour
-hoursFrom file k zero = []
-hoursFrom file k (suc left) = hourAt file k ∷ hoursFrom file (suc k) left
-
 -- as many as there are 200 lines
 abbrev pub hourCount : List ℕ → ℕ
 hourCount file = length (recordsOf file So2Concentration)
 
 -- in file order
 unfoldable pub hoursOf : List ℕ → List Hour
-hoursOf file = hoursFrom file 0 (hourCount file)
+hoursOf file = ranked (hourAt file) 0 (hourCount file)
 
 -- what line 301 says
 unfoldable pub totalsIn : List ℕ → Quarter

@@ -13,7 +13,7 @@ use Rattle.lines.specs.declared.FacilityLine.{FacilityLine}
 use Rattle.lines.specs.declared.FacilityLine.the-variants.{Of, Faulty as FaultyFacility}
 use Rattle.lines.specs.declared.HourLine.{HourLine}
 use Rattle.lines.specs.declared.HourLine.the-variants.{At, Faulty as FaultyHour}
-use Rattle.reading.specs.Reading.{refusedAt, laterTypes, runsOf, reportOf, walkDue, walkLater, walkHours, walk, readOf}
+use Rattle.reading.specs.Reading.{stoppedAt, laterTypes, runsOf, reportOf, walkDue, walkLater, walkHours, walk, readOf}
 use Rattle.reading.specs.declared.Report.{Report}
 use Rattle.reading.specs.declared.Refusal.{Refusal}
 use Rattle.reading.specs.declared.Reading.{Reading}
@@ -24,7 +24,7 @@ abbrev Low : Reading → Type 0
 Low (Clean r) = Unit {0}
 Low (Refused r) = r .number ≤ 10
 
-stop-or : (f : ℕ) (line : ℕ) (next : Reading) → f ≤ 10 → Low next → Low (elim f [ zero ↦ next | suc c ↦ refusedAt (suc c) line ])
+stop-or : (f : ℕ) (line : ℕ) (next : Reading) → f ≤ 10 → Low next → Low (elim f [ zero ↦ next | suc c ↦ stoppedAt (suc c) line ])
 stop-or zero line next h n = n
 stop-or (suc f) line next h n = h
 
@@ -56,7 +56,7 @@ hours-low facility period (x ∷ ls) line from dates =
     next hour = walkHours facility period (line + 1) (hour + 1) (dates ++ (dateOn x ∷ [])) ls
 
     go : (h : HourLine) → hourLine facility period from x ≡ h → ((hour : ℕ) → Low (next hour)) →
-        Low (elim h [ At hour ↦ next hour | FaultyHour number ↦ refusedAt number line ])
+        Low (elim h [ At hour ↦ next hour | FaultyHour number ↦ stoppedAt number line ])
     go (At hour) e ih = ih hour
     go (FaultyHour number) e ih = hour-number facility period from x number e
 
@@ -65,7 +65,7 @@ unfolding walk
 walk-low [] = lit≤ tt
 walk-low (l ∷ ls) = go (facilityLine l) refl
   where
-    go : (f : FacilityLine) → facilityLine l ≡ f → Low (elim f [ Of period ↦ walkHours l period 2 0 [] ls | FaultyFacility number ↦ refusedAt number 1 ])
+    go : (f : FacilityLine) → facilityLine l ≡ f → Low (elim f [ Of period ↦ walkHours l period 2 0 [] ls | FaultyFacility number ↦ stoppedAt number 1 ])
     go (Of period) e = hours-low l period ls 2 0 []
     go (FaultyFacility number) e = facility-number l number e
 
@@ -73,7 +73,7 @@ read-low : (file : List ℕ) → Low (readOf file)
 unfolding readOf
 read-low file = go (eqb (last file) 10)
   where
-    go : (t : Bool) → Low (elim t [ true ↦ walk (lines file) | false ↦ refusedAt 1 0 ])
+    go : (t : Bool) → Low (elim t [ true ↦ walk (lines file) | false ↦ stoppedAt 1 0 ])
     go true = walk-low (lines file)
     go false = lit≤ tt
 

@@ -1,6 +1,6 @@
 -- The records of lines that come in runs, each of one type: the lines of that type's run.
 use Prim.Native.Nat.{ℕ, zero, suc, _+_, _<_}
-use mathlib.Core.Path.{_≡_, refl, sym, ap, _∙_}
+use mathlib.Core.Path.{_≡_, refl, ap, _∙_}
 use mathlib.Core.List.{List, [], _∷_, _++_, append-nil}
 use mathlib.Core.Bool.{Bool, true, false, cond, not}
 use native.Mathlib.Omega.{arith}
@@ -11,7 +11,8 @@ use lib.ListN.{length, take, drop, getD}
 use borrow.Author.Tests.{eqb-true}
 use Rattle.exact.specs.Sums.{totalOf}
 use Rattle.layout.specs.Layout.{codeOf, order, placeOf, rankOf, earlier}
-use Rattle.layout.specs.LayoutLaws.{both, in-order}
+use Rattle.exact.specs.Logic.{both, All}
+use Rattle.layout.specs.LayoutLaws.{in-order}
 use Rattle.layout.specs.TypeLaws.{code-tells, absent, only-once}
 use Rattle.layout.specs.declared.RecordType.{RecordType}
 use Rattle.lines.specs.LineFaults.{typeIs}
@@ -25,8 +26,7 @@ pub record LineRun : Type 0 where
   pub texts : List (List ℕ)
 
 abbrev pub AllOf : RecordType → List (List ℕ) → Type 0
-AllOf t [] = Unit {0}
-AllOf t (l ∷ ls) = (typeIs t l ≡ true) × AllOf t ls
+AllOf t ls = All (λ l. typeIs t l ≡ true) ls
 
 abbrev pub Typed : List LineRun → Type 0
 Typed [] = Unit {0}

@@ -30,14 +30,14 @@ pub fn read(file: &[u8]) -> Reading
 {
     let size = file.len();
     if size == 0 {
-        return walk::refused(1, 0);
+        return walk::stopped(1, 0);
     }
     if file[size - 1] != 10 {
-        return walk::refused(1, 0);
+        return walk::stopped(1, 0);
     }
     let first = lines::facility_line(file);
     match first {
-        FacilityLine::Faulty(number) => walk::refused(number, 1),
+        FacilityLine::Faulty(number) => walk::stopped(number, 1),
         FacilityLine::Of(period) => walk::walk_hours(file, period),
     }
 }

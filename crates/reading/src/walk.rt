@@ -14,11 +14,11 @@ ghost use lib.ListN.{length, drop};
 ghost use Rattle.calendar.specs.Calendar.{IsQuarter};
 ghost use Rattle.layout.specs.Layout.{lengthOf, countOf, shape};
 ghost use Rattle.lines.specs.Lines.{lines};
-ghost use Rattle.reading.specs.Reading.{refusedAt, walkLater, walkHours};
+ghost use Rattle.reading.specs.Reading.{stoppedAt, walkLater, walkHours};
 ghost use Rattle.reading.specs.Places.{facilityOf, hourStart, datesIn, Counted, dateDue};
 
-pub fn refused(number: u64, line: usize) -> Reading
-    ensures { λ r. ⌜ r ≡ refusedAt number line ⌝ }
+pub fn stopped(number: u64, line: usize) -> Reading
+    ensures { λ r. ⌜ r ≡ stoppedAt number line ⌝ }
 {
     Reading::Refused(Refusal { number, line })
 }
@@ -57,11 +57,11 @@ fn walk_later(file: &[u8], period: Period, n: usize) -> Reading
         let mut k = 0;
         while k < count {
             if file.len() <= at {
-                return refused(10, line);
+                return stopped(10, line);
             }
-            let fault = lines::due_fault(facility, t, date_due(file, t, n, k), &file[at..]);
+            let fault = lines::due_fault(facility, date_due(file, t, n, k), &file[at..], t);
             if fault != 0 {
-                return refused(fault, line);
+                return stopped(fault, line);
             }
             at += layout::line_length(t) + 1;
             line += 1;
@@ -70,7 +70,7 @@ fn walk_later(file: &[u8], period: Period, n: usize) -> Reading
         place += 1;
     }
     if at < file.len() {
-        return refused(2, line);
+        return stopped(2, line);
     }
     Reading::Clean(Report {
         period,
@@ -92,10 +92,10 @@ pub fn walk_hours(file: &[u8], period: Period) -> Reading
         if !lines::shape::type_is(rest, RecordType::So2Concentration) {
             return walk_later(file, period, n);
         }
-        let line = lines::hour_line(facility, period, from, rest);
+        let line = lines::hour_line(facility, rest, period, from);
         match line {
             HourLine::Faulty(number) => {
-                return refused(number, 2 + n);
+                return stopped(number, 2 + n);
             }
             HourLine::At(hour) => {
                 from = hour + 1;

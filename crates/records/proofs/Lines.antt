@@ -1,12 +1,12 @@
 -- Lines written step by step: blanks one by one, values one by one, and a record with its byte 10 as a part of the buffer.
 use Prim.Native.Nat.{ℕ, suc, _+_, _-_, _≤_, _<_}
 use mathlib.Core.Path.{_≡_, ap, _∙_}
-use mathlib.Core.List.{List, [], _∷_, _++_}
+use mathlib.Core.List.{List, [], _∷_}
 use native.Mathlib.Omega.{arith}
 use native.Mathlib.Nat.{add-sub-cancel-left}
 use native.Mathlib.Numerals.{add-one}
-use lib.ListN.{length, take, drop, set, getD, replicate, replicate-append-replicate, length-drop, drop-of-length-le}
-use lib.Seq.{length-take-le, drop-cons, drop-drop, set-split, take-suc-set, getD-take}
+use lib.ListN.{length, take, drop, set, getD, length-drop, drop-of-length-le}
+use lib.Seq.{length-take-le, drop-cons, drop-drop, set-split, getD-take}
 use borrow.Rule.Slice.PartMut.{putMid}
 use Rattle.columns.specs.Columns.{put}
 use Rattle.columns.specs.ColumnsLaws.{put-length, put-beside}
@@ -15,14 +15,6 @@ use Rattle.layout.specs.Layout.{valueCount, valuesOf, valueAt, mostValues, noVa
 use Rattle.layout.specs.LayoutLaws.{values-most}
 use Rattle.layout.specs.declared.RecordType.{RecordType}
 use Rattle.records.specs.Records.{valued, ended}
-
--- blanks up to place i, and one more
-pub blank-more : (l : List ℕ) (i : ℕ) → i < length l → take i l ≡ replicate i 32 → take (i + 1) (set l i 32) ≡ replicate (i + 1) 32
-blank-more l i h e =
-    ap (λ (n : ℕ). take n (set l i 32)) (add-one i)
-    ∙ take-suc-set l i 32 h
-    ∙ ap (λ (bs : List ℕ). bs ++ (32 ∷ [])) e
-    ∙ replicate-append-replicate i 1 32
 
 -- the values of a record from the i-th on
 module _ (t : RecordType) (values : List ℕ) where

@@ -6,29 +6,19 @@ use layout::Shape;
 use totals::Quarter;
 ghost use mathlib.Core.Path.{_≡_};
 ghost use Prim.Native.Nat.{_+_, _<_};
-ghost use lib.ListN.{length, take, replicate};
+ghost use lib.ListN.{length, take};
 ghost use Rattle.columns.specs.Columns.{put};
 ghost use Rattle.columns.specs.Written.{digitsOf};
 ghost use Rattle.layout.specs.Layout.{recordOf, lengthOf, stackWidth, dateWidth, valueCount, valuesOf, offsetOf};
 ghost use Rattle.records.specs.Records.{headed, valued, ended, facilityRecord, hourValues, datedRecord, totalsRecord};
 ghost use Rattle.records.specs.Room.{HourFits};
 
-fn fill_blank(line: &mut [u8])
-    ensures { λ _. ⌜ now (line .exit) ≡ replicate (length (now (line .entry))) 32 ⌝ }
-{
-    let mut i = 0;
-    while i < line.len() {
-        line[i] = 32;
-        i += 1;
-    }
-}
-
 // Type and stack name in an otherwise blank record.
-fn write_heading(line: &mut [u8], t: RecordType, name: &[u8])
+fn write_heading(line: &mut [u8], name: &[u8], t: RecordType)
     requires { ⌜ (length (now line) ≡ lengthOf t) × (length (now name) ≡ stackWidth) ⌝ }
     ensures { λ _. ⌜ now (line .exit) ≡ headed t (now (name .entry)) ⌝ }
 {
-    fill_blank(line);
+    filling::fill_with(line, 32);
     let digits = layout::type_digits(t);
     filling::write_bytes(line, layout::TYPE_START, &digits);
     filling::write_bytes(line, layout::STACK_START, name);
@@ -48,11 +38,11 @@ fn write_values(line: &mut [u8], t: RecordType, values: [u64; layout::MOST_VALUE
     }
 }
 
-fn facility_record(line: &mut [u8], year: u64, quarter: u64, name: &[u8])
+fn facility_record(line: &mut [u8], name: &[u8], year: u64, quarter: u64)
     requires { ⌜ (length (now line) ≡ lengthOf RecordType.Facility) × (length (now name) ≡ stackWidth) ⌝ }
     ensures { λ _. ⌜ now (line .exit) ≡ facilityRecord year quarter (now (name .entry)) ⌝ }
 {
-    write_heading(line, RecordType::Facility, name);
+    write_heading(line, name, RecordType::Facility);
     filling::write_digits(line, layout::YEAR.start, layout::YEAR.width, year);
     filling::write_digits(line, layout::QUARTER.start, layout::QUARTER.width, quarter);
 }
@@ -77,11 +67,11 @@ fn hour_values(t: RecordType, h: Hour) -> [u64; layout::MOST_VALUES]
 }
 
 // The record of an hour, whose date is a number of eight digits.
-fn hour_record(line: &mut [u8], t: RecordType, name: &[u8], date: u64, h: Hour)
+fn hour_record(line: &mut [u8], name: &[u8], t: RecordType, date: u64, h: Hour)
     requires { ⌜ (length (now line) ≡ lengthOf t) × (length (now name) ≡ stackWidth) × (recordOf t .run ≡ Run.Hourly) ⌝ }
     ensures { λ _. ⌜ now (line .exit) ≡ datedRecord (now (name .entry)) t (digitsOf dateWidth date) h ⌝ }
 {
-    write_heading(line, t, name);
+    write_heading(line, name, t);
     filling::write_digits(line, layout::date_column(t), layout::DATE_WIDTH, date);
     write_values(line, t, hour_values(t, h));
 }
@@ -90,7 +80,7 @@ fn totals_record(line: &mut [u8], name: &[u8], q: Quarter)
     requires { ⌜ (length (now line) ≡ lengthOf RecordType.QuarterTotals) × (length (now name) ≡ stackWidth) ⌝ }
     ensures { λ _. ⌜ now (line .exit) ≡ totalsRecord (now (name .entry)) q ⌝ }
 {
-    write_heading(line, RecordType::QuarterTotals, name);
+    write_heading(line, name, RecordType::QuarterTotals);
     write_values(
         line,
         RecordType::QuarterTotals,
@@ -98,22 +88,22 @@ fn totals_record(line: &mut [u8], name: &[u8], q: Quarter)
     );
 }
 
-pub fn write_facility(buffer: &mut [u8], year: u64, quarter: u64, name: &[u8])
+pub fn write_facility(buffer: &mut [u8], name: &[u8], year: u64, quarter: u64)
     requires { ⌜ (lengthOf RecordType.Facility < length (now buffer)) × (length (now name) ≡ stackWidth) ⌝ }
     ensures { λ _. ⌜ now (buffer .exit) ≡ put 1 (ended (facilityRecord year quarter (now (name .entry)))) (now (buffer .entry)) ⌝ }
 {
     let end = layout::line_length(RecordType::Facility);
-    facility_record(&mut buffer[0..end], year, quarter, name);
+    facility_record(&mut buffer[0..end], name, year, quarter);
     buffer[end] = 10;
 }
 
 // The line of a type of hour k.
 pub fn write_hour(
     buffer: &mut [u8],
-    s: Shape,
-    k: usize,
-    t: RecordType,
     name: &[u8],
+    s: Shape,
+    t: RecordType,
+    k: usize,
     date: u64,
     h: Hour,
 )
@@ -123,11 +113,11 @@ pub fn write_hour(
 {
     let at = layout::offset_of(s, t, k);
     let end = at + layout::line_length(t);
-    hour_record(&mut buffer[at..end], t, name, date, h);
+    hour_record(&mut buffer[at..end], name, t, date, h);
     buffer[end] = 10;
 }
 
-pub fn write_totals(buffer: &mut [u8], at: usize, name: &[u8], q: Quarter)
+pub fn write_totals(buffer: &mut [u8], name: &[u8], at: usize, q: Quarter)
     requires { ⌜ (at + lengthOf RecordType.QuarterTotals < length (now buffer)) × (length (now name) ≡ stackWidth) ⌝ }
     ensures { λ _. ⌜ now (buffer .exit) ≡ put (at + 1) (ended (totalsRecord (now (name .entry)) q)) (now (buffer .entry)) ⌝ }
 {

@@ -7,7 +7,7 @@ use lib.Dec.{eqb, leb, ltb}
 use Rattle.columns.specs.Bytes.{all, isBlank, isPrintable}
 use Rattle.calendar.specs.Calendar.{hoursInQuarter}
 use Rattle.layout.specs.Layout.{within, yearDigits, quarterDigit, timeHours, so2Ppm, noxPpm, co2Percent, flowScfh, fFactor}
-use Rattle.sheet.specs.Sheet.{hourWords, sheetKind, hourCount, hoursOf}
+use Rattle.sheet.specs.Sheet.{hourWords, sheetKind, sheetHourCount, sheetHours}
 use Rattle.sheet.specs.declared.SheetHour.{SheetHour}
 
 -- a test over every hour
@@ -43,8 +43,8 @@ hoursRise below from (h ∷ hs) = hourHolds below from h && hoursRise below (suc
 
 unfoldable pub sheetHolds : ℕ → ℕ → List ℕ → List ℕ → Bool
 sheetHolds year quarter name sheet =
-    headingHolds year quarter name && eqb (length sheet % hourWords) 0 && kindsHold sheet 0 (hourCount sheet)
-    && hoursRise (hoursInQuarter year quarter) 0 (hoursOf sheet)
+    headingHolds year quarter name && eqb (length sheet % hourWords) 0 && kindsHold sheet 0 (sheetHourCount sheet)
+    && hoursRise (hoursInQuarter year quarter) 0 (sheetHours sheet)
 
 -- 32: time and readings lie in the ranges of their columns
 unfoldable pub readingsHold : SheetHour → Bool

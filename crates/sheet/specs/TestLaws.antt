@@ -6,16 +6,18 @@ use mathlib.Core.Bool.{Bool, true, not}
 use native.Mathlib.Omega.{arith}
 use lib.ListN.{length}
 use borrow.Author.Tests.{leb-true, ltb-true, eqb-true}
+use Rattle.exact.specs.Logic.{ranked}
 use Rattle.columns.specs.Bytes.{all, isBlank, isPrintable}
 use Rattle.calendar.specs.Calendar.{IsQuarter, hoursInQuarter}
 use Rattle.calendar.specs.CalendarLaws.{hours-in-quarter}
 use Rattle.layout.specs.Layout.{Within, Held, yearDigits, timeHours}
-use Rattle.layout.specs.LayoutLaws.{both, within-true}
+use Rattle.exact.specs.Logic.{both}
+use Rattle.layout.specs.LayoutLaws.{within-true}
 use Rattle.formulas.specs.Hour.{ReadingsWithin}
 use Rattle.stamp.specs.StampLaws.{is-quarter}
-use Rattle.sheet.specs.Sheet.{hourWords, hourAt, hourCount, shapeOf, hoursFrom, hoursOf}
+use Rattle.sheet.specs.Sheet.{hourWords, sheetHour, sheetHourCount, shapeOf, sheetHours}
 use Rattle.sheet.specs.SheetTests.{every, headingHolds, kindsHold, hourHolds, hoursRise, sheetHolds, readingsHold}
-use Rattle.sheet.specs.SheetLaws.{hours-count}
+use Rattle.sheet.specs.SheetLaws.{sheet-hours-count}
 use Rattle.sheet.specs.declared.SheetHour.{SheetHour}
 
 pub record Heading (year quarter : ℕ) (name : List ℕ) : Type 0 where
@@ -36,8 +38,8 @@ heading-true year quarter name e =
 pub record Shaped (year quarter : ℕ) (name sheet : List ℕ) : Type 0 where
   pub heading : Heading year quarter name
   pub words : length sheet % hourWords ≡ 0
-  pub kinds : kindsHold sheet 0 (hourCount sheet) ≡ true
-  pub rises : hoursRise (hoursInQuarter year quarter) 0 (hoursOf sheet) ≡ true
+  pub kinds : kindsHold sheet 0 (sheetHourCount sheet) ≡ true
+  pub rises : hoursRise (hoursInQuarter year quarter) 0 (sheetHours sheet) ≡ true
 
 pub sheet-true : (year quarter : ℕ) (name sheet : List ℕ) → sheetHolds year quarter name sheet ≡ true → Shaped year quarter name sheet
 unfolding sheetHolds
@@ -53,21 +55,21 @@ module _ (p : SheetHour → Bool) where
   unfolding every
   every-first h hs e = both (p h) _ e
 
-  every-at : (sheet : List ℕ) (k left j : ℕ) → every p (hoursFrom sheet k left) ≡ true → j < left → p (hourAt sheet (k + j)) ≡ true
-  unfolding hoursFrom
+  every-at : (sheet : List ℕ) (k left j : ℕ) → every p (ranked (sheetHour sheet) k left) ≡ true → j < left → p (sheetHour sheet (k + j)) ≡ true
+  unfolding ranked
   every-at sheet k zero j e h = absurd (omega arith)
   every-at sheet k (suc left) zero e h =
       let z : k + 0 ≡ k = omega arith in
-      rw z (every-first (hourAt sheet k) (hoursFrom sheet (suc k) left) e .0)
+      rw z (every-first (sheetHour sheet k) (ranked (sheetHour sheet) (suc k) left) e .0)
   every-at sheet k (suc left) (suc j) e h =
       let s : k + suc j ≡ suc k + j = omega arith in
-      rw s (every-at sheet (suc k) left j (every-first (hourAt sheet k) (hoursFrom sheet (suc k) left) e .1) (omega arith))
+      rw s (every-at sheet (suc k) left j (every-first (sheetHour sheet k) (ranked (sheetHour sheet) (suc k) left) e .1) (omega arith))
 
-  pub every-hour : (sheet : List ℕ) (k : ℕ) → every p (hoursOf sheet) ≡ true → k < hourCount sheet → p (hourAt sheet k) ≡ true
-  unfolding hoursOf
+  pub every-hour : (sheet : List ℕ) (k : ℕ) → every p (sheetHours sheet) ≡ true → k < sheetHourCount sheet → p (sheetHour sheet k) ≡ true
+  unfolding sheetHours
   every-hour sheet k e h =
       let z : 0 + k ≡ k = omega arith in
-      rw z at (every-at sheet 0 (hourCount sheet) k e h)
+      rw z at (every-at sheet 0 (sheetHourCount sheet) k e h)
 
 -- hours that rise below a number are no more than it, and each is below it
 module _ (below : ℕ) where
@@ -89,25 +91,27 @@ module _ (below : ℕ) where
       let r = rise-first from h hs e in
       omega (arith, r, rise-count (suc (h .hour)) hs (r .2))
 
-  rise-at : (from : ℕ) (sheet : List ℕ) (k left j : ℕ) → hoursRise below from (hoursFrom sheet k left) ≡ true → j < left → hourAt sheet (k + j) .hour < below
-  unfolding hoursFrom
+  rise-at : (from : ℕ) (sheet : List ℕ) (k left j : ℕ) → hoursRise below from (ranked (sheetHour sheet) k left) ≡ true → j < left →
+      sheetHour sheet (k + j) .hour < below
+  unfolding ranked
   rise-at from sheet k zero j e h = absurd (omega arith)
   rise-at from sheet k (suc left) zero e h =
       let z : k + 0 ≡ k = omega arith in
-      rw z (rise-first from (hourAt sheet k) (hoursFrom sheet (suc k) left) e .1)
+      rw z (rise-first from (sheetHour sheet k) (ranked (sheetHour sheet) (suc k) left) e .1)
   rise-at from sheet k (suc left) (suc j) e h =
       let s : k + suc j ≡ suc k + j = omega arith in
-      rw s (rise-at (suc (hourAt sheet k .hour)) sheet (suc k) left j (rise-first from (hourAt sheet k) (hoursFrom sheet (suc k) left) e .2) (omega arith))
+      let r = rise-first from (sheetHour sheet k) (ranked (sheetHour sheet) (suc k) left) e in
+      rw s (rise-at (suc (sheetHour sheet k .hour)) sheet (suc k) left j (r .2) (omega arith))
 
-  pub rise-hour : (sheet : List ℕ) (k : ℕ) → hoursRise below 0 (hoursOf sheet) ≡ true → k < hourCount sheet → hourAt sheet k .hour < below
-  unfolding hoursOf
+  pub rise-hour : (sheet : List ℕ) (k : ℕ) → hoursRise below 0 (sheetHours sheet) ≡ true → k < sheetHourCount sheet → sheetHour sheet k .hour < below
+  unfolding sheetHours
   rise-hour sheet k e h =
       let z : 0 + k ≡ k = omega arith in
-      rw z at (rise-at 0 sheet 0 (hourCount sheet) k e h)
+      rw z at (rise-at 0 sheet 0 (sheetHourCount sheet) k e h)
 
 pub shape-held : (year quarter : ℕ) (name sheet : List ℕ) → Shaped year quarter name sheet → Held (shapeOf sheet)
 shape-held year quarter name sheet s =
-    record { hours = omega (arith, rise-count _ _ _ (s .rises), hours-count sheet, hours-in-quarter year quarter (s .heading .isQuarter)) }
+    record { hours = omega (arith, rise-count _ _ _ (s .rises), sheet-hours-count sheet, hours-in-quarter year quarter (s .heading .isQuarter)) }
 
 -- an hour that 32 does not refuse
 pub readings-true : (h : SheetHour) → readingsHold h ≡ true → Within timeHours (h .time) × ReadingsWithin (h .readings)

@@ -5,7 +5,7 @@ use layout::Shape;
 ghost use mathlib.Core.Path.{_≡_};
 ghost use Prim.Native.Nat.{_+_, _*_, _≤_, _<_};
 ghost use lib.ListN.{length, getD};
-ghost use Rattle.sheet.specs.Sheet.{valueOf, apart, hourWords, hourAt, shapeOf};
+ghost use Rattle.sheet.specs.Sheet.{wordValue, apart, hourWords, sheetHour, shapeOf};
 ghost use Rattle.sheet.specs.SheetTests.{headingHolds, hourKinds, hourHolds, readingsHold};
 
 // An hour's words: hour and time, SO2, NOx, CO2, flow, Fc.
@@ -40,9 +40,9 @@ pub fn word_apart(word: u32) -> Word
     }
 }
 
-fn value_at(sheet: &[u32], i: usize) -> u64
+fn word_value(sheet: &[u32], i: usize) -> u64
     requires { ⌜ i < length (now sheet) ⌝ }
-    ensures { λ r. ⌜ r ≡ valueOf (getD (now (sheet .entry)) i 0) ⌝ }
+    ensures { λ r. ⌜ r ≡ wordValue (getD (now (sheet .entry)) i 0) ⌝ }
 {
     word_apart(sheet[i]).value
 }
@@ -50,19 +50,19 @@ fn value_at(sheet: &[u32], i: usize) -> u64
 // The k-th hour of the sheet, from 0.
 pub fn hour_at(sheet: &[u32], k: usize) -> SheetHour
     requires { ⌜ hourWords * k + hourWords ≤ length (now sheet) ⌝ }
-    ensures { λ r. ⌜ r ≡ hourAt (now (sheet .entry)) k ⌝ }
+    ensures { λ r. ⌜ r ≡ sheetHour (now (sheet .entry)) k ⌝ }
 {
     let first = HOUR_WORDS * k;
-    let hour = value_at(sheet, first);
+    let hour = word_value(sheet, first);
     SheetHour {
         hour: hour / TIME_SIZE,
         time: hour % TIME_SIZE,
         readings: Readings {
-            so2: value_at(sheet, first + 1),
-            nox: value_at(sheet, first + 2),
-            co2: value_at(sheet, first + 3),
-            flow: value_at(sheet, first + 4),
-            fc: value_at(sheet, first + 5),
+            so2: word_value(sheet, first + 1),
+            nox: word_value(sheet, first + 2),
+            co2: word_value(sheet, first + 3),
+            flow: word_value(sheet, first + 4),
+            fc: word_value(sheet, first + 5),
         },
     }
 }
@@ -77,7 +77,7 @@ pub fn shape_of(sheet: &[u32]) -> Shape
 }
 
 // 31: year, quarter and stack name.
-pub fn heading_holds(year: u64, quarter: u64, name: &[u8]) -> bool
+pub fn heading_holds(name: &[u8], year: u64, quarter: u64) -> bool
     ensures { λ r. ⌜ r ≡ headingHolds year quarter (now (name .entry)) ⌝ }
 {
     layout::within(layout::YEAR, year)

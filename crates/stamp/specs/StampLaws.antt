@@ -1,6 +1,6 @@
 -- An hour's stamp names the hour.
-use Prim.Native.Nat.{ℕ, _+_, _*_, _/_, _%_, _≤_, _<_, _^_}
-use mathlib.Core.Path.{_≡_, refl, ap, _∙_}
+use Prim.Native.Nat.{ℕ, _/_, _%_, _<_, _^_}
+use mathlib.Core.Path.{_≡_, refl}
 use native.Mathlib.Omega.{arith}
 use mathlib.Core.List.{List}
 use mathlib.Core.Bool.{Bool, true, false, cond}
@@ -14,7 +14,7 @@ use Rattle.columns.specs.WrittenLaws.{read-digits-written, digits-length, digit
 use Rattle.columns.specs.declared.Field.{Field}
 use Rattle.columns.specs.declared.Field.the-variants.{Blank, Malformed, Number}
 use Rattle.layout.specs.Layout.{dateWidth, quarterDigit, Within}
-use Rattle.calendar.specs.Calendar.{IsQuarter, hoursInQuarter, quarterHour, dateOfHour}
+use Rattle.calendar.specs.Calendar.{mostHours, IsQuarter, hoursInQuarter, quarterHour, dateOfHour}
 use Rattle.calendar.specs.CalendarLaws.{TwoDigits, date-of-hour-two-digits, hour-at, at-hour-below}
 use Rattle.calendar.specs.declared.Date.{Date}
 use Rattle.calendar.specs.declared.QuarterHour.the-variants.{At, Outside}
@@ -32,8 +32,8 @@ pub stamp-length : (year quarter hour : ℕ) → length (stampOf year quarter ho
 unfolding stampOf
 stamp-length year quarter hour = digits-length dateWidth (stampNumber year quarter hour)
 
-pub number-below : (year : ℕ) (date : Date) → TwoDigits date → dateNumber year date < 10 ^ dateWidth
-number-below year date t = omega arith
+pub date-number-below : (year : ℕ) (date : Date) → TwoDigits date → dateNumber year date < 10 ^ dateWidth
+date-number-below year date t = omega arith
 
 number-date : (year : ℕ) (date : Date) → TwoDigits date → numberDate (dateNumber year date) ≡ date
 number-date year date t =
@@ -49,22 +49,23 @@ module _ (year quarter : ℕ) (q : IsQuarter quarter) where
       let t = date-of-hour-two-digits year quarter q hour h in
       let date = dateOfHour year quarter hour in
       let y : dateNumber year date / 1_000_000 ≡ year % 100 = omega arith in
-      rw (read-digits-written dateWidth (dateNumber year date) (number-below year date t), eq-eqb _ _ y, number-date year date t) (hour-at year quarter hour h)
+      rw (read-digits-written dateWidth (dateNumber year date) (date-number-below year date t), eq-eqb _ _ y, number-date year date t)
+      (hour-at year quarter hour h)
 
-  number-hour-below : (v hour : ℕ) → numberHour year quarter v ≡ At hour → hour < 2208
+  number-hour-below : (v hour : ℕ) → numberHour year quarter v ≡ At hour → hour < mostHours
   unfolding numberHour
   number-hour-below v hour e = go (eqb (v / 1_000_000) (year % 100)) e
     where
-      go : (t : Bool) → cond t (quarterHour year quarter (numberDate v)) Outside ≡ At hour → hour < 2208
+      go : (t : Bool) → cond t (quarterHour year quarter (numberDate v)) Outside ≡ At hour → hour < mostHours
       go true k = at-hour-below year quarter (numberDate v) q hour k
       go false k = absurd (let z : _≡_ {A = ℕ} 0 1 = cc in omega arith)
 
   -- the hour that columns name is one of the quarter's
-  pub stamp-below : (bs : List ℕ) (hour : ℕ) → stampHour year quarter bs ≡ At hour → hour < 2208
+  pub stamp-below : (bs : List ℕ) (hour : ℕ) → stampHour year quarter bs ≡ At hour → hour < mostHours
   unfolding stampHour fieldHour
   stamp-below bs hour e = go (digitsOnly bs) e
     where
-      go : (f : Field) → fieldHour year quarter f ≡ At hour → hour < 2208
+      go : (f : Field) → fieldHour year quarter f ≡ At hour → hour < mostHours
       go Blank k = absurd (let z : _≡_ {A = ℕ} 0 1 = cc in omega arith)
       go Malformed k = absurd (let z : _≡_ {A = ℕ} 0 1 = cc in omega arith)
       go (Number v) k = number-hour-below v hour k

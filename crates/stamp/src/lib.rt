@@ -44,7 +44,7 @@ pub fn read_stamp(line: &[u8], start: usize, year: u64, quarter: u64) -> Quarter
 }
 
 // The number that the eight digits of a date are.
-fn number_of(year: u64, date: Date) -> u64
+fn date_number(year: u64, date: Date) -> u64
     requires { ⌜ TwoDigits date ⌝ }
     ensures { λ r. ⌜ r ≡ dateNumber year date ⌝ }
 {
@@ -56,5 +56,5 @@ pub fn stamp_number(year: u64, quarter: u64, hour: u64) -> u64
     requires { ⌜ IsQuarter quarter × (hour < hoursInQuarter year quarter) ⌝ }
     ensures { λ r. ⌜ r ≡ stampNumber year quarter hour ⌝ }
 {
-    number_of(year, calendar::date_of_hour(year, quarter, hour))
+    date_number(year, calendar::date_of_hour(year, quarter, hour))
 }

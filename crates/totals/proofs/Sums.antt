@@ -1,69 +1,88 @@
 -- The running totals as the code grows and rounds them.
--- Assumes nothing.
-use mathlib.Core.Path.{_≡_, refl, ap, _∙_}
-use mathlib.Core.List.{List, [], _∷_}
+use mathlib.Core.Path.{_≡_, refl, ap, sym, _∙_}
+use mathlib.Core.List.{List, [], _∷_, map}
 use Prim.Native.Nat.{ℕ, zero, suc, _+_, _*_, _≤_, _<_}
-use native.Mathlib.Nat.{mul-le-mul, mul-le-mul-right}
+use native.Mathlib.Nat.{mul-le-mul-right}
 use native.Mathlib.Omega.{arith}
 use lib.Dec.{lit<}
 use lib.ListN.{length, getD}
+use Rattle.calendar.specs.Calendar.{mostHours}
 use Rattle.exact.specs.Fraction.{over, _÷_, whole}
 use Rattle.exact.specs.FractionLaws.{quotient}
 use Rattle.exact.specs.Rounding.{recorded, nearest, halfUp}
 use Rattle.exact.specs.RoundingLaws.{nearest-reduced}
 use Rattle.exact.specs.Sums.{hundredths}
 use Rattle.formulas.specs.Hour.{tenth, thousandth}
-use Rattle.totals.specs.Totals.{shareOf, ShareRoom, added, withHour, Room, meanOf, quarterOf}
+use Rattle.totals.specs.Totals.{poundsPerTon, mostShare, mostSum, Share, shares, shareOf, noTotals, ShareRoom, added, withHour, Room, meanOf, quarterOf}
 use Rattle.formulas.specs.declared.hour.Figures.{Figures}
 use Rattle.totals.specs.declared.Totals.{Totals}
 use Rattle.totals.specs.declared.Quarter.{Quarter}
 
--- four sums, added place by place to an hour's share
-abbrev pub fourSums : List ℕ → List ℕ → List ℕ
-fourSums xs ys = (getD xs 0 0 + getD ys 0 0) ∷ (getD xs 1 0 + getD ys 1 0) ∷ (getD xs 2 0 + getD ys 2 0) ∷ (getD xs 3 0 + getD ys 3 0) ∷ []
+-- n sums from place i on, each grown by its share
+abbrev pub sumsAt : (n i : ℕ) → List ℕ → List ℕ → List ℕ
+sumsAt zero i xs ys = []
+sumsAt (suc n) i xs ys = (getD xs i 0 + getD ys i 0) ∷ sumsAt n (suc i) xs ys
 
-four-added : (xs : List ℕ) (f : Figures) (time : ℕ) → length xs ≡ 4 → fourSums xs (shareOf f time) ≡ added xs (shareOf f time)
+-- all of them
+abbrev pub grownSums : List ℕ → List ℕ → List ℕ
+grownSums xs ys = sumsAt (length shares) 0 xs ys
+
+sums-behind : (n i : ℕ) (x y : ℕ) (xs ys : List ℕ) → sumsAt n (suc i) (x ∷ xs) (y ∷ ys) ≡ sumsAt n i xs ys
+sums-behind zero i x y xs ys = refl
+sums-behind (suc n) i x y xs ys = ap (λ (l : List ℕ). (getD xs i 0 + getD ys i 0) ∷ l) (sums-behind n (suc i) x y xs ys)
+
+sums-added : (xs ys : List ℕ) → length xs ≡ length ys → sumsAt (length xs) 0 xs ys ≡ added xs ys
 unfolding added
-four-added [] f time e = absurd (omega arith)
-four-added (a ∷ []) f time e = absurd (omega arith)
-four-added (a ∷ b ∷ []) f time e = absurd (omega arith)
-four-added (a ∷ b ∷ c ∷ []) f time e = absurd (omega arith)
-four-added (a ∷ b ∷ c ∷ d ∷ []) f time e = refl
-four-added (a ∷ b ∷ c ∷ d ∷ x ∷ xs) f time e = absurd (omega arith)
+sums-added [] ys e = refl
+sums-added (x ∷ xs) [] e = absurd (omega arith)
+sums-added (x ∷ xs) (y ∷ ys) e = ap (λ (l : List ℕ). (x + y) ∷ l) (sums-behind (length xs) 0 x y xs ys ∙ sums-added xs ys (omega arith))
 
-pub grown : (t : Totals) (f : Figures) (time : ℕ) (share : List ℕ) → length (t .sums) ≡ 4 → share ≡ shareOf f time →
-    _≡_ {A = Totals} (record { sums = fourSums (t .sums) share; hours = t .hours + 1 }) (withHour t f time)
+pub grown : (t : Totals) (f : Figures) (time : ℕ) (share : List ℕ) → length (t .sums) ≡ length shares → share ≡ shareOf f time →
+    _≡_ {A = Totals} (record { sums = grownSums (t .sums) share; hours = t .hours + 1 }) (withHour t f time)
 unfolding withHour
-grown t f time share l e = rw (e, four-added (t .sums) f time l)
+grown t f time share l e =
+    ap (λ (x : List ℕ). record { sums = x; hours = t .hours + 1 })
+    (ap (grownSums (t .sums)) e
+    ∙ ap (λ (n : ℕ). sumsAt n 0 (t .sums) (shareOf f time)) (sym l)
+    ∙ sums-added (t .sums) (shareOf f time) l)
 
-pub grown-room : (t : Totals) (share : List ℕ) → Room t → ShareRoom share → t .hours < 2208 → Room (record { sums = fourSums (t .sums) share; hours = t .hours + 1 })
-grown-room t share r s h = record { four = refl; hours = omega arith; each = each }
+sums-under : (n i j a b : ℕ) (xs ys : List ℕ) → ((i : ℕ) → getD xs i 0 ≤ a) → ((i : ℕ) → getD ys i 0 ≤ b) → getD (sumsAt n i xs ys) j 0 ≤ a + b
+sums-under zero i j a b xs ys p q = omega arith
+sums-under (suc n) i zero a b xs ys p q = omega (arith, p i, q i)
+sums-under (suc n) i (suc j) a b xs ys p q = sums-under n (suc i) j a b xs ys p q
+
+pub grown-room : (t : Totals) (share : List ℕ) → Room t → ShareRoom share → t .hours < mostHours →
+    Room (record { sums = grownSums (t .sums) share; hours = t .hours + 1 })
+grown-room t share r s h = record {
+  count = refl;
+  hours = omega arith;
+  each = λ i. omega (arith, sums-under (length shares) 0 i (t .hours * mostShare) mostShare (t .sums) share (r .each) (s .each));
+}
+
+-- what is true of every number of a list is true at every place
+abbrev pub AllUnder : ℕ → List ℕ → Type 0
+AllUnder most [] = Unit {0}
+AllUnder most (x ∷ xs) = (x ≤ most) × AllUnder most xs
+
+under-at : (most : ℕ) (xs : List ℕ) → AllUnder most xs → (i : ℕ) → getD xs i 0 ≤ most
+under-at most [] h i = omega arith
+under-at most (x ∷ xs) h zero = h .0
+under-at most (x ∷ xs) h (suc i) = under-at most xs (h .1) i
+
+pub share-room : {xs : List ℕ} → length xs ≡ length shares → AllUnder mostShare xs → ShareRoom xs
+share-room {xs} e h = record { count = e; each = under-at mostShare xs h }
+
+pub none-room : Room noTotals
+none-room = record { count = refl; hours = omega arith; each = λ i. omega (arith, none shares i) }
   where
-    each : (i : ℕ) → getD (fourSums (t .sums) share) i 0 ≤ (t .hours + 1) * 99_999_900
-    each zero = omega (arith, r .each 0, s .each 0)
-    each (suc zero) = omega (arith, r .each 1, s .each 1)
-    each (suc (suc zero)) = omega (arith, r .each 2, s .each 2)
-    each (suc (suc (suc zero))) = omega (arith, r .each 3, s .each 3)
-    each (suc (suc (suc (suc i)))) = omega arith
-
-pub four-at : {a b c d a′ b′ c′ d′ : ℕ} → a ≡ a′ → b ≡ b′ → c ≡ c′ → d ≡ d′ →
-    _≡_ {A = List ℕ} (a ∷ b ∷ c ∷ d ∷ []) (a′ ∷ b′ ∷ c′ ∷ d′ ∷ [])
-four-at e f g h = rw (e, f, g, h)
-
--- four shares that are small are small at every place
-pub share-room : (a b c d : ℕ) → a ≤ 99_999_900 → b ≤ 99_999_900 → c ≤ 99_999_900 → d ≤ 99_999_900 → ShareRoom (a ∷ b ∷ c ∷ d ∷ [])
-share-room a b c d ha hb hc hd = record { four = refl; each = each }
-  where
-    each : (i : ℕ) → getD (a ∷ b ∷ c ∷ d ∷ []) i 0 ≤ 99_999_900
-    each zero = ha
-    each (suc zero) = hb
-    each (suc (suc zero)) = hc
-    each (suc (suc (suc zero))) = hd
-    each (suc (suc (suc (suc i)))) = omega arith
+    none : (ss : List Share) (i : ℕ) → getD (map (λ (s : Share). 0) ss) i 0 ≤ 0
+    none [] i = omega arith
+    none (s ∷ ss) zero = omega arith
+    none (s ∷ ss) (suc i) = none ss i
 
 -- a sum of a quarter is at most 2,208 times the most of an hour
-pub sum-bound : (t : Totals) (i : ℕ) → Room t → getD (t .sums) i 0 ≤ 220_799_779_200
-sum-bound t i r = omega (arith, r .each i, mul-le-mul-right 99_999_900 (r .hours))
+pub sum-bound : (t : Totals) (i : ℕ) → Room t → getD (t .sums) i 0 ≤ mostSum
+sum-bound t i r = omega (arith, r .each i, mul-le-mul-right mostShare (r .hours))
 
 pub mean-none : (sum n : ℕ) → n ≡ 0 → 0 ≡ meanOf sum n
 unfolding meanOf over
@@ -75,7 +94,7 @@ mean-some sum n h =
     let v = quotient (recorded thousandth sum) n 1 h in
     rw (v .upper, v .lower) (nearest-reduced 1000 _ _ _ _ (lit< tt) (omega arith) (omega arith))
 
-pub tons : (sum : ℕ) → nearest sum 200_000 ≡ halfUp tenth (hundredths tenth sum ÷ whole 2000)
+pub tons : (sum : ℕ) → nearest sum 200_000 ≡ halfUp tenth (hundredths tenth sum ÷ whole poundsPerTon)
 unfolding over
 tons sum = nearest-reduced 10 _ _ _ _ (lit< tt) (omega arith) (omega arith)
 

@@ -1,13 +1,13 @@
 -- The totals of at most 2,208 hours whose figures lie in their columns fit theirs.
 use Prim.Native.Nat.{ℕ, zero, suc, _+_, _*_, _≤_, _<_}
-use mathlib.Core.Path.{_≡_}
 use mathlib.Core.List.{List, [], _∷_}
 use native.Mathlib.Omega.{arith}
 use native.Mathlib.Nat.{mul-le-mul, div-lt-iff-lt-mul}
 use lib.ListN.{length}
+use Rattle.calendar.specs.Calendar.{mostHours}
 use Rattle.exact.specs.Fraction.{over}
 use Rattle.exact.specs.Sums.{totalOf}
-use Rattle.layout.specs.Layout.{so2Tons, co2Tons, heatTotal, noxMean, Within}
+use Rattle.layout.specs.Layout.{so2Tons, co2Tons, heatTotal, noxMean, so2Rate, co2Rate, heatRate, timeHours, Within}
 use Rattle.formulas.specs.Hour.{HourWithin, HoursWithin}
 use Rattle.formulas.specs.declared.hour.Hour.{Hour}
 use Rattle.totals.specs.Totals.{totalsOf, meanOf, quarterOf, quarterTotals}
@@ -33,12 +33,12 @@ mean-le sum (suc n) h =
     let l : 2 * (sum * 1 * 1 * 1000) + 1 * (1000 * suc n) < 100_000 * (2 * (1 * (1000 * suc n))) = omega arith in
     omega (arith, div-lt-iff-lt-mul d .1 l)
 
-pub totals-fit : (hs : List Hour) → HoursWithin hs → length hs ≤ 2208 → QuarterWithin (quarterTotals hs)
+pub totals-fit : (hs : List Hour) → HoursWithin hs → length hs ≤ mostHours → QuarterWithin (quarterTotals hs)
 unfolding quarterTotals quarterOf totalsOf over
 totals-fit hs w b =
-    let s = total-le (λ h. h .figures .so2 * h .time) 99_999_900 (λ h r. omega (arith, mul-le-mul (r .figures .so2 .most) (r .time .most))) hs w in
-    let c = total-le (λ h. h .figures .co2 * h .time) 99_999_900 (λ h r. omega (arith, mul-le-mul (r .figures .co2 .most) (r .time .most))) hs w in
-    let e = total-le (λ h. h .figures .heat * h .time) 99_999_900 (λ h r. omega (arith, mul-le-mul (r .figures .heat .most) (r .time .most))) hs w in
+    let s = total-le (λ h. h .figures .so2 * h .time) (so2Rate .most * timeHours .most) (λ h r. mul-le-mul (r .figures .so2 .most) (r .time .most)) hs w in
+    let c = total-le (λ h. h .figures .co2 * h .time) (co2Rate .most * timeHours .most) (λ h r. mul-le-mul (r .figures .co2 .most) (r .time .most)) hs w in
+    let e = total-le (λ h. h .figures .heat * h .time) (heatRate .most * timeHours .most) (λ h r. mul-le-mul (r .figures .heat .most) (r .time .most)) hs w in
     let x = total-le (λ h. h .figures .nox) 99_999 (λ h r. r .figures .nox .most) hs w in
     record {
       so2 = record { least = omega arith; most = omega arith };

@@ -1,9 +1,9 @@
 -- The totals of a quarter: formed exactly from the recorded figures, hour by hour, and rounded once.
--- Assumes nothing.
-use Prim.Native.Nat.{ℕ, _+_, _*_, _/_, _≤_}
+use Prim.Native.Nat.{ℕ, _+_, _*_, _≤_, _^_}
 use mathlib.Core.Path.{_≡_}
-use mathlib.Core.List.{List, [], _∷_}
+use mathlib.Core.List.{List, [], _∷_, map}
 use lib.ListN.{length, getD}
+use Rattle.calendar.specs.Calendar.{mostHours}
 use Rattle.exact.specs.Fraction.{_÷_, whole}
 use Rattle.exact.specs.Rounding.{recorded, halfUp}
 use Rattle.exact.specs.Sums.{totalOf, hundredths}
@@ -13,12 +13,19 @@ use Rattle.formulas.specs.declared.hour.Hour.{Hour}
 use Rattle.totals.specs.declared.Totals.{Totals}
 use Rattle.totals.specs.declared.Quarter.{Quarter}
 
--- one hour's share of the four sums, in the order of record 301: SO2, CO2, heat input, NOx
+-- an hour's share of a sum, from its figures and its operating time
+abbrev pub Share : Type 0
+Share = Figures → ℕ → ℕ
+
+-- the sums, in the order of record 301: SO2, CO2 and heat input as rate × time, NOx rates as they are
+abbrev pub shares : List Share
+shares = (λ f time. f .so2 * time) ∷ (λ f time. f .co2 * time) ∷ (λ f time. f .heat * time) ∷ (λ f time. f .nox) ∷ []
+
 abbrev pub shareOf : Figures → ℕ → List ℕ
-shareOf f time = (f .so2 * time) ∷ (f .co2 * time) ∷ (f .heat * time) ∷ f .nox ∷ []
+shareOf f time = map (λ (s : Share). s f time) shares
 
 abbrev pub noTotals : Totals
-noTotals = record { sums = 0 ∷ 0 ∷ 0 ∷ 0 ∷ []; hours = 0 }
+noTotals = record { sums = map (λ (s : Share). 0) shares; hours = 0 }
 
 -- place by place
 unfoldable pub added : List ℕ → List ℕ → List ℕ
@@ -35,38 +42,43 @@ unfoldable pub runningTotals : Totals → List Hour → Totals
 runningTotals t [] = t
 runningTotals t (h ∷ hs) = runningTotals (withHour t (h .figures) (h .time)) hs
 
--- the four sums over a list of hours: what the running totals come to (TotalLaws.antt)
+-- the sums over a list of hours: what the running totals come to (TotalLaws.antt)
+abbrev pub sumOver : List Hour → Share → ℕ
+sumOver hs s = totalOf (λ h. s (h .figures) (h .time)) hs
+
 unfoldable pub totalsOf : List Hour → Totals
-totalsOf hs = record {
-  sums =
-      totalOf (λ h. h .figures .so2 * h .time) hs
-      ∷ totalOf (λ h. h .figures .co2 * h .time) hs
-      ∷ totalOf (λ h. h .figures .heat * h .time) hs
-      ∷ totalOf (λ h. h .figures .nox) hs
-      ∷ [];
-  hours = length hs;
-}
+totalsOf hs = record { sums = map (sumOver hs) shares; hours = length hs }
 
--- each share is at most 100 hundredths of an hour times the most that a figure's columns hold
+-- no share is more, whatever its figures' columns hold; a quarter's sum of such shares has room in 64 bits
+abbrev pub mostShare : ℕ
+mostShare = 10 ^ 13
+
+abbrev pub mostSum : ℕ
+mostSum = mostHours * mostShare
+
+-- one hour's shares
 pub record ShareRoom (share : List ℕ) : Type 0 where
-  pub four : length share ≡ 4
-  pub each : (i : ℕ) → getD share i 0 ≤ 99_999_900
+  pub count : length share ≡ length shares
+  pub each : (i : ℕ) → getD share i 0 ≤ mostShare
 
--- four sums of at most 2,208 hours
+-- the sums of at most 2,208 hours
 pub record Room (t : Totals) : Type 0 where
-  pub four : length (t .sums) ≡ 4
-  pub hours : t .hours ≤ 2208
-  pub each : (i : ℕ) → getD (t .sums) i 0 ≤ t .hours * 99_999_900
+  pub count : length (t .sums) ≡ length shares
+  pub hours : t .hours ≤ mostHours
+  pub each : (i : ℕ) → getD (t .sums) i 0 ≤ t .hours * mostShare
 
 -- the sum of n NOx rates over n; 0 for no hour
 unfoldable pub meanOf : ℕ → ℕ → ℕ
 meanOf sum n = halfUp thousandth (recorded thousandth sum ÷ whole n)
 
--- the quarter: 2,000 lb to the ton; CO2 is in tons already
+abbrev pub poundsPerTon : ℕ
+poundsPerTon = 2000
+
+-- the quarter: SO2 in tons of pounds; CO2 is in tons already
 unfoldable pub quarterOf : Totals → Quarter
 quarterOf t = record {
   hours = t .hours;
-  so2 = halfUp tenth (hundredths tenth (getD (t .sums) 0 0) ÷ whole 2000);
+  so2 = halfUp tenth (hundredths tenth (getD (t .sums) 0 0) ÷ whole poundsPerTon);
   co2 = halfUp tenth (hundredths tenth (getD (t .sums) 1 0) ÷ whole 1);
   heat = halfUp tenth (hundredths tenth (getD (t .sums) 2 0) ÷ whole 1);
   nox = meanOf (getD (t .sums) 3 0) (t .hours);

@@ -2,8 +2,9 @@
 use formulas::hour::Figures;
 ghost use mathlib.Core.Path.{_≡_};
 ghost use Prim.Native.Nat.{_*_, _<_, _≤_};
+ghost use Rattle.calendar.specs.Calendar.{mostHours};
 ghost use Rattle.formulas.specs.Hour.{FiguresWithin};
-ghost use Rattle.totals.specs.Totals.{shareOf, ShareRoom, noTotals, withHour, Room, meanOf, quarterOf};
+ghost use Rattle.totals.specs.Totals.{mostShare, mostSum, shareOf, ShareRoom, noTotals, withHour, Room, meanOf, quarterOf};
 
 // The sums over the hours so far, in the order of record 301: SO2, CO2 and heat input as rate × time, in thousandths of lb, tons and
 // mmBtu; NOx as the plain sum of its rates, in thousandths of lb/mmBtu. Beside them the count of the hours.
@@ -24,7 +25,7 @@ pub struct Quarter {
 // A rate times its weight in the sum.
 fn weighted(rate: u64, weight: u64) -> u64
     requires { ⌜ (rate ≤ 999999) × (weight ≤ 100) ⌝ }
-    ensures { λ r. ⌜ (r ≡ rate * weight) × (r ≤ 99999900) ⌝ }
+    ensures { λ r. ⌜ (r ≡ rate * weight) × (r ≤ mostShare) ⌝ }
 {
     rate * weight
 }
@@ -55,7 +56,7 @@ impl Totals {
 
     // Grown by one hour.
     pub fn with_hour(mut self, figures: Figures, time: u64) -> Totals
-        requires { ⌜ Room self × (self .hours < 2208) × FiguresWithin figures × (time ≤ 100) ⌝ }
+        requires { ⌜ Room self × (self .hours < mostHours) × FiguresWithin figures × (time ≤ 100) ⌝ }
         ensures { λ r. ⌜ (r ≡ withHour self figures time) × Room r ⌝ }
     {
         let s = self.sums;
@@ -89,7 +90,7 @@ impl Totals {
 
 // The sum of n rates over n, rounded; 0 for no rate.
 fn mean(sum: u64, n: u64) -> u64
-    requires { ⌜ (sum ≤ 220799779200) × (n ≤ 2208) ⌝ }
+    requires { ⌜ (sum ≤ mostSum) × (n ≤ mostHours) ⌝ }
     ensures { λ r. ⌜ r ≡ meanOf sum n ⌝ }
 {
     if n == 0 {

@@ -9,14 +9,14 @@ use lib.ListN.{length}
 use borrow.Author.Tests.{eq-eqb, ne-eqb, le-leb, lt-leb}
 use Rattle.calendar.specs.Calendar.{hoursInQuarter}
 use Rattle.layout.specs.Layout.{reportLength}
-use Rattle.sheet.specs.Sheet.{hourWords, hourCount, shapeOf, hoursOf}
+use Rattle.sheet.specs.Sheet.{hourWords, sheetHourCount, shapeOf, sheetHours}
 use Rattle.sheet.specs.SheetTests.{every, headingHolds, kindsHold, hoursRise, sheetHolds, readingsHold}
 use Rattle.writer.specs.Refusals.{figuresFit, refusalOf}
-use Rattle.writer.specs.OnePass.{valuesRefusal, hoursRefusal, earlier, inOrder, refusalFrom}
+use Rattle.writer.specs.OnePass.{valuesRefusal, hoursRefusal, firstTried, inOrder, refusalFrom}
 
 -- what the pass finds over all hours
 abbrev pub passed : ℕ → ℕ → List ℕ → ℕ
-passed year quarter sheet = refusalFrom (hoursInQuarter year quarter) sheet 0 (hourCount sheet) 0 0
+passed year quarter sheet = refusalFrom (hoursInQuarter year quarter) sheet 0 (sheetHourCount sheet) 0 0
 
 -- 34 is tried last
 withRoom : ℕ → Bool → ℕ
@@ -37,16 +37,16 @@ module _ (year quarter : ℕ) (name sheet : List ℕ) (room : ℕ) where
   words-wrong e w = unshaped (rw (e, ne-eqb _ _ w))
 
   module _ (e : headingHolds year quarter name ≡ true) (w : length sheet % hourWords ≡ 0) where
-    shaped : sheetHolds year quarter name sheet ≡ (kindsHold sheet 0 (hourCount sheet) && hoursRise (hoursInQuarter year quarter) 0 (hoursOf sheet))
+    shaped : sheetHolds year quarter name sheet ≡ (kindsHold sheet 0 (sheetHourCount sheet) && hoursRise (hoursInQuarter year quarter) 0 (sheetHours sheet))
     unfolding sheetHolds
     shaped = rw (e, eq-eqb _ _ w)
 
     told : refusalOf year quarter name sheet room ≡ withRoom (passed year quarter sheet) (leb (reportLength (shapeOf sheet)) room)
-    unfolding refusalOf refusalFrom inOrder hoursRefusal hoursOf earlier withRoom
+    unfolding refusalOf refusalFrom inOrder hoursRefusal sheetHours firstTried withRoom
     told =
         rw (shaped, refusalOf)
-        (go (kindsHold sheet 0 (hourCount sheet)) (hoursRise (hoursInQuarter year quarter) 0 (hoursOf sheet)) (every readingsHold (hoursOf sheet))
-        (every figuresFit (hoursOf sheet)))
+        (go (kindsHold sheet 0 (sheetHourCount sheet)) (hoursRise (hoursInQuarter year quarter) 0 (sheetHours sheet)) (every readingsHold (sheetHours sheet))
+        (every figuresFit (sheetHours sheet)))
       where
         fits : Bool
         fits = leb (reportLength (shapeOf sheet)) room
@@ -61,10 +61,10 @@ module _ (year quarter : ℕ) (name sheet : List ℕ) (room : ℕ) where
         go true true true false = refl
         go true true true true = refl
 
-    pub found-told : (found : ℕ) → found ≡ passed year quarter sheet → (found ≡ 0 → ⊥) → found ≡ refusalOf year quarter name sheet room
+    pub found-first : (found : ℕ) → found ≡ passed year quarter sheet → (found ≡ 0 → ⊥) → found ≡ refusalOf year quarter name sheet room
     unfolding withRoom
-    found-told zero f h = absurd (h refl)
-    found-told (suc found) f h = sym (told ∙ rw (← f))
+    found-first zero f h = absurd (h refl)
+    found-first (suc found) f h = sym (told ∙ rw (← f))
 
     module _ {bytes : ℕ} (f : passed year quarter sheet ≡ 0) (b : bytes ≡ reportLength (shapeOf sheet)) where
       pub room-short : room < bytes → 34 ≡ refusalOf year quarter name sheet room
@@ -76,8 +76,8 @@ module _ (year quarter : ℕ) (name sheet : List ℕ) (room : ℕ) where
       room-enough h = sym (told ∙ rw (f, le-leb _ _ (rw b at h)))
 
     pub none-found : passed year quarter sheet ≡ 0 → sheetHolds year quarter name sheet ≡ true
-    unfolding refusalFrom inOrder hoursOf
-    none-found f = shaped ∙ go (kindsHold sheet 0 (hourCount sheet)) (hoursRise (hoursInQuarter year quarter) 0 (hoursOf sheet)) _ f
+    unfolding refusalFrom inOrder sheetHours
+    none-found f = shaped ∙ go (kindsHold sheet 0 (sheetHourCount sheet)) (hoursRise (hoursInQuarter year quarter) 0 (sheetHours sheet)) _ f
       where
         go : (a b : Bool) (values : ℕ) → inOrder a b values ≡ 0 → (a && b) ≡ true
         go false b values h = absurd (omega arith)

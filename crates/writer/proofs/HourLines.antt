@@ -2,14 +2,15 @@
 -- report lies in one of them.
 use Prim.Native.Nat.{ℕ, zero, suc, _+_, _≤_, _<_}
 use mathlib.Core.Path.{_≡_, refl, sym, ap, _∙_}
-use mathlib.Core.List.{List, [], _∷_, _++_, map, append-assoc}
+use mathlib.Core.List.{List, [], _∷_, _++_, append-assoc}
 use mathlib.Core.Logic.{_⊎_, inl, inr}
 use native.Mathlib.Omega.{arith}
 use native.Mathlib.Decide.{decLt}
 use native.Mathlib.Nat.{mul-le-mul-left}
 use native.Mathlib.Numerals.{add-one}
 use lib.ListN.{length, drop, getD, length-drop}
-use lib.Seq.{drop-append-le, drop-drop, ext-getD}
+use lib.Seq.{drop-append-le, drop-cons, drop-drop, ext-getD}
+use Rattle.exact.specs.Logic.{mapped-at}
 use Rattle.columns.specs.Columns.{put}
 use Rattle.columns.specs.ColumnsLaws.{put-length, put-behind}
 use Rattle.layout.specs.Layout.{recordOf, order, rankOf, hourly, keepHourly, lengthOf, stackWidth, countOf, bytesOf, frontOf, offsetOf, reportLength}
@@ -26,19 +27,12 @@ use Rattle.layout.specs.declared.Shape.{Shape}
 use Rattle.sheet.specs.declared.SheetHour.{SheetHour}
 use Rattle.writer.specs.Recorded.{recordedHour, recordedHours}
 use Rattle.records.specs.Records.{ended, facilityRecord, totalsRecord}
-use Rattle.writer.specs.Written.{hourRecord, recordsOf, report}
+use Rattle.writer.specs.Written.{hourRecord, writtenRecords, report}
 use Rattle.writer.specs.HourLines.{hourLines, hoursLines}
 use Rattle.records.specs.RecordLaws.{facility-length, totals-length}
 use Rattle.writer.specs.LineLaws.{hour-length}
 use Rattle.writer.specs.ReportLaws.{ended-length, hour-records, behindRecord, record-place, report-length}
 use Rattle.writer.proofs.Puts.{Own, Right, unknown, put-fills, put-keeps}
-
--- the k-th of some records, by what follows from it on
-mapped-at : {A : Type 0} (f : A → List ℕ) (xs : List A) (k : ℕ) (a : A) (rest : List A) → drop k xs ≡ a ∷ rest → getD (map f xs) k [] ≡ f a
-mapped-at f [] zero a rest e = cc
-mapped-at f [] (suc k) a rest e = cc
-mapped-at f (b ∷ bs) zero a rest e = cc
-mapped-at f (b ∷ bs) (suc k) a rest e = mapped-at f bs k a rest e
 
 drop-next : {A : Type 0} (xs : List A) (k : ℕ) (a : A) (rest : List A) → drop k xs ≡ a ∷ rest → drop (k + 1) xs ≡ rest
 drop-next xs k a rest e = sym (drop-drop 1 k xs) ∙ ap (drop 1) e
@@ -58,7 +52,7 @@ module _ (year quarter : ℕ) (name : List ℕ) (named : length name ≡ stackWi
   whole-long = put-length 1 text before (omega (arith, text-long))
 
   -- a line of the report
-  own-line : (t : RecordType) (k : ℕ) (line : List ℕ) → k < countOf s t → getD (recordsOf year quarter name hours t) k [] ≡ line → length line ≡ lengthOf t
+  own-line : (t : RecordType) (k : ℕ) (line : List ℕ) → k < countOf s t → getD (writtenRecords year quarter name hours t) k [] ≡ line → length line ≡ lengthOf t
       → Own whole (offsetOf s t k) (ended line)
   unfolding put
   own-line t k line h e l =
@@ -84,7 +78,9 @@ module _ (year quarter : ℕ) (name : List ℕ) (named : length name ≡ stackWi
     own-hour t e =
         let few : k < countOf s t = rw e rank-below in
         let rs = ap (λ (rs : List (List ℕ)). getD rs k []) (hour-records year quarter name hours t e) in
-        let r = mapped-at (hourRecord year quarter name t) hours k h rest here in
+        let m = rank-below in
+        let own : getD hours k h ≡ h = ap (λ (l : List SheetHour). getD l 0 h) (sym (drop-cons hours k h (omega (arith, count, m))) ∙ here) in
+        let r = mapped-at (hourRecord year quarter name t) hours h [] k (omega (arith, count, m)) ∙ ap (hourRecord year quarter name t) own in
         own-line t k (hourRecord year quarter name t h) few (rs ∙ r) (hour-length name named year quarter t h)
 
     line-length : (t : RecordType) → length (ended (hourRecord year quarter name t h)) ≡ lengthOf t + 1
@@ -157,14 +153,14 @@ module _ (year quarter : ℕ) (name : List ℕ) (named : length name ≡ stackWi
   -- line 100 and line 301
 
   own-facility : Own whole (offsetOf s Facility 0) (ended (facilityRecord year quarter name))
-  unfolding recordsOf
+  unfolding writtenRecords
   own-facility = own-line Facility 0 (facilityRecord year quarter name) (omega arith) refl (facility-length name named year quarter)
 
   abbrev totals : List ℕ
   totals = totalsRecord name (quarterTotals (recordedHours hours))
 
   own-totals : Own whole (offsetOf s QuarterTotals 0) (ended totals)
-  unfolding recordsOf
+  unfolding writtenRecords
   own-totals = own-line QuarterTotals 0 totals (omega arith) refl (totals-length name named _)
 
   abbrev withFacility : List ℕ

@@ -5,14 +5,15 @@ use mathlib.Core.List.{List}
 use native.Mathlib.Numerals.{add-one}
 use native.Mathlib.Omega.{arith}
 use lib.ListN.{length}
+use Rattle.exact.specs.Logic.{ranked, ranked-next, ranked-end}
 use Rattle.layout.specs.Layout.{order, hourly}
 use Rattle.stamp.specs.Stamp.{stampOf}
 use Rattle.totals.specs.Totals.{Room, noTotals, withHour, runningTotals, quarterOf, quarterTotals}
 use Rattle.totals.specs.TotalLaws.{running-totals, running-next, running-end, grown-hours, quarter-formed}
 use Rattle.totals.specs.declared.Totals.{Totals}
 use Rattle.layout.specs.declared.Shape.{Shape}
-use Rattle.sheet.specs.Sheet.{hourAt, shapeOf, hoursFrom, hoursOf}
-use Rattle.sheet.specs.SheetLaws.{hours-next, hours-end, hours-whole}
+use Rattle.sheet.specs.SheetLaws.{sheet-hours-whole}
+use Rattle.sheet.specs.Sheet.{sheetHour, shapeOf, sheetHours}
 use Rattle.writer.specs.Recorded.{recordedHour, recordedHours}
 use Rattle.records.specs.Room.{HourFits}
 use Rattle.writer.specs.HourLines.{hourLines, hoursLines}
@@ -21,43 +22,43 @@ use Rattle.writer.specs.Writable.{Fits}
 -- the running totals
 module _ (sheet : List ℕ) (n k : ℕ) (totals : Totals) where
   abbrev pub totalsLeft : Totals
-  totalsLeft = runningTotals totals (recordedHours (hoursFrom sheet k (n - k)))
+  totalsLeft = runningTotals totals (recordedHours (ranked (sheetHour sheet) k (n - k)))
 
-  pub totals-more : (grown : Totals) → k < n → grown ≡ withHour totals (recordedHour (hourAt sheet k) .figures) (recordedHour (hourAt sheet k) .time)
-      → runningTotals grown (recordedHours (hoursFrom sheet (k + 1) (n - (k + 1)))) ≡ totalsLeft
+  pub totals-more : (grown : Totals) → k < n → grown ≡ withHour totals (recordedHour (sheetHour sheet k) .figures) (recordedHour (sheetHour sheet k) .time)
+      → runningTotals grown (recordedHours (ranked (sheetHour sheet) (k + 1) (n - (k + 1)))) ≡ totalsLeft
   unfolding recordedHours
   totals-more grown h e =
-      let rest = recordedHours (hoursFrom sheet (k + 1) (n - (k + 1))) in
-      rw (hours-next sheet n k h, e) (sym (running-next totals (recordedHour (hourAt sheet k)) rest))
+      let rest = recordedHours (ranked (sheetHour sheet) (k + 1) (n - (k + 1))) in
+      rw (ranked-next (sheetHour sheet) n k h, e) (sym (running-next totals (recordedHour (sheetHour sheet k)) rest))
 
   pub totals-end : n ≤ k → totalsLeft ≡ totals
   unfolding recordedHours
-  totals-end h = rw (hours-end sheet n k h) (running-end totals)
+  totals-end h = rw (ranked-end (sheetHour sheet) n k h) (running-end totals)
 
 -- the lines
 module _ (year quarter : ℕ) (name sheet : List ℕ) (s : Shape) (k : ℕ) (buffer : List ℕ) where
   abbrev pub linesLeft : List ℕ
-  linesLeft = hoursLines year quarter name s k (hoursFrom sheet k (s .hours - k)) buffer
+  linesLeft = hoursLines year quarter name s k (ranked (sheetHour sheet) k (s .hours - k)) buffer
 
   abbrev pub withHourLines : List ℕ
-  withHourLines = hourLines name s k (stampOf year quarter (hourAt sheet k .hour)) (recordedHour (hourAt sheet k)) (hourly order) buffer
+  withHourLines = hourLines name s k (stampOf year quarter (sheetHour sheet k .hour)) (recordedHour (sheetHour sheet k)) (hourly order) buffer
 
-  pub lines-more : k < s .hours → hoursLines year quarter name s (k + 1) (hoursFrom sheet (k + 1) (s .hours - (k + 1))) withHourLines ≡ linesLeft
+  pub lines-more : k < s .hours → hoursLines year quarter name s (k + 1) (ranked (sheetHour sheet) (k + 1) (s .hours - (k + 1))) withHourLines ≡ linesLeft
   unfolding hoursLines
-  lines-more h = rw (hours-next sheet (s .hours) k h, add-one k)
+  lines-more h = rw (ranked-next (sheetHour sheet) (s .hours) k h, add-one k)
 
   pub lines-end : s .hours ≤ k → linesLeft ≡ buffer
   unfolding hoursLines
-  lines-end h = rw (hours-end sheet (s .hours) k h)
+  lines-end h = rw (ranked-end (sheetHour sheet) (s .hours) k h)
 
 -- what stands before hour k, in a buffer that was `before`
 pub record Passed (year quarter : ℕ) (name sheet before : List ℕ) (s : Shape) (buffer : List ℕ) (totals : Totals) (k : ℕ) : Type 0 where
   pub upTo : k ≤ s .hours
   pub room : Room totals
   pub counted : totals .hours ≡ k
-  pub totalled : totalsLeft sheet (s .hours) k totals ≡ runningTotals noTotals (recordedHours (hoursOf sheet))
+  pub totalled : totalsLeft sheet (s .hours) k totals ≡ runningTotals noTotals (recordedHours (sheetHours sheet))
   pub kept : length buffer ≡ length before
-  pub lines : linesLeft year quarter name sheet s k buffer ≡ hoursLines year quarter name s 0 (hoursOf sheet) before
+  pub lines : linesLeft year quarter name sheet s k buffer ≡ hoursLines year quarter name s 0 (sheetHours sheet) before
 
 module _ (year quarter : ℕ) (name sheet before : List ℕ) (s : Shape) (shaped : s ≡ shapeOf sheet) where
   pub passed-start : {totals : Totals} → totals ≡ noTotals → Room totals → Passed year quarter name sheet before s before totals 0
@@ -65,14 +66,14 @@ module _ (year quarter : ℕ) (name sheet before : List ℕ) (s : Shape) (shaped
     upTo = omega arith;
     room = r;
     counted = ap (λ (t : Totals). t .hours) e;
-    totalled = rw (e, shaped, hours-whole);
+    totalled = rw (e, shaped, sheet-hours-whole);
     kept = refl;
-    lines = rw (shaped, hours-whole);
+    lines = rw (shaped, sheet-hours-whole);
   }
 
   module _ {buffer : List ℕ} {totals : Totals} {k : ℕ} (p : Passed year quarter name sheet before s buffer totals k) where
     pub passed-more : {buffer′ : List ℕ} {totals′ : Totals} → k < s .hours → Room totals′
-        → totals′ ≡ withHour totals (recordedHour (hourAt sheet k) .figures) (recordedHour (hourAt sheet k) .time)
+        → totals′ ≡ withHour totals (recordedHour (sheetHour sheet k) .figures) (recordedHour (sheetHour sheet k) .time)
         → length buffer′ ≡ length buffer → buffer′ ≡ withHourLines year quarter name sheet s k buffer
         → Passed year quarter name sheet before s buffer′ totals′ (k + 1)
     passed-more {buffer′} {totals′} h r t l b = record {
@@ -84,11 +85,11 @@ module _ (year quarter : ℕ) (name sheet before : List ℕ) (s : Shape) (shaped
       lines = rw b (lines-more year quarter name sheet s k buffer h ∙ p .lines);
     }
 
-    pub passed-end : s .hours ≤ k → (quarterOf totals ≡ quarterTotals (recordedHours (hoursOf sheet)))
-        × (buffer ≡ hoursLines year quarter name (shapeOf sheet) 0 (hoursOf sheet) before)
+    pub passed-end : s .hours ≤ k → (quarterOf totals ≡ quarterTotals (recordedHours (sheetHours sheet)))
+        × (buffer ≡ hoursLines year quarter name (shapeOf sheet) 0 (sheetHours sheet) before)
     passed-end h = (
-      quarter-formed totals (recordedHours (hoursOf sheet)) (sym (totals-end sheet (s .hours) k totals h) ∙ p .totalled ∙ running-totals _),
-      sym (lines-end year quarter name sheet s k buffer h) ∙ p .lines ∙ ap (λ (s : Shape). hoursLines year quarter name s 0 (hoursOf sheet) before) shaped,
+      quarter-formed totals (recordedHours (sheetHours sheet)) (sym (totals-end sheet (s .hours) k totals h) ∙ p .totalled ∙ running-totals _),
+      sym (lines-end year quarter name sheet s k buffer h) ∙ p .lines ∙ ap (λ (s : Shape). hoursLines year quarter name s 0 (sheetHours sheet) before) shaped,
     )
 
 -- a buffer of the same length has room as well

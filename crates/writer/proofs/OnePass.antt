@@ -6,48 +6,48 @@ use mathlib.Core.Bool.{Bool, true, false, _&&_}
 use native.Mathlib.Nat.{sub-zero}
 use native.Mathlib.Numerals.{add-one}
 use native.Mathlib.Omega.{arith}
-use Rattle.sheet.specs.Sheet.{hourAt, hoursFrom}
-use Rattle.sheet.specs.SheetLaws.{hours-next, hours-end}
+use Rattle.exact.specs.Logic.{ranked, ranked-next, ranked-end}
+use Rattle.sheet.specs.Sheet.{sheetHour}
 use Rattle.sheet.specs.SheetTests.{every, hourKinds, kindsHold, hourHolds, hoursRise, readingsHold}
 use Rattle.sheet.specs.declared.SheetHour.{SheetHour}
 use Rattle.writer.specs.Refusals.{figuresFit}
-use Rattle.writer.specs.OnePass.{valuesRefusal, hourRefusal, hoursRefusal, earlier, inOrder, refusalFrom}
+use Rattle.writer.specs.OnePass.{valuesRefusal, hourRefusal, hoursRefusal, firstTried, inOrder, refusalFrom}
 
 -- the earlier of two refusals
 
-pub earlier-second : (a b : ℕ) → a ≡ 0 → b ≡ earlier a b
-unfolding earlier
-earlier-second a b e = rw e
+pub tried-second : (a b : ℕ) → a ≡ 0 → b ≡ firstTried a b
+unfolding firstTried
+tried-second a b e = rw e
 
-pub earlier-first : (a b : ℕ) → b ≡ 0 → a ≡ earlier a b
-unfolding earlier
-earlier-first zero b e = sym e
-earlier-first (suc a) b e = rw e
+pub tried-first : (a b : ℕ) → b ≡ 0 → a ≡ firstTried a b
+unfolding firstTried
+tried-first zero b e = sym e
+tried-first (suc a) b e = rw e
 
-pub earlier-least : (a b : ℕ) → (a ≡ 0 → ⊥) → (b ≡ 0 → ⊥) → b < a → b ≡ earlier a b
-unfolding earlier
-earlier-least zero b p q h = absurd (p refl)
-earlier-least (suc a) zero p q h = absurd (q refl)
-earlier-least (suc a) (suc b) p q h = omega arith
+pub tried-least : (a b : ℕ) → (a ≡ 0 → ⊥) → (b ≡ 0 → ⊥) → b < a → b ≡ firstTried a b
+unfolding firstTried
+tried-least zero b p q h = absurd (p refl)
+tried-least (suc a) zero p q h = absurd (q refl)
+tried-least (suc a) (suc b) p q h = omega arith
 
-pub earlier-kept : (a b : ℕ) → (a ≡ 0 → ⊥) → (b ≡ 0 → ⊥) → a ≤ b → a ≡ earlier a b
-unfolding earlier
-earlier-kept zero b p q h = absurd (p refl)
-earlier-kept (suc a) zero p q h = absurd (q refl)
-earlier-kept (suc a) (suc b) p q h = omega arith
+pub tried-kept : (a b : ℕ) → (a ≡ 0 → ⊥) → (b ≡ 0 → ⊥) → a ≤ b → a ≡ firstTried a b
+unfolding firstTried
+tried-kept zero b p q h = absurd (p refl)
+tried-kept (suc a) zero p q h = absurd (q refl)
+tried-kept (suc a) (suc b) p q h = omega arith
 
-earlier-assoc : (a b c : ℕ) → earlier (earlier a b) c ≡ earlier a (earlier b c)
-unfolding earlier
-earlier-assoc zero b c = refl
-earlier-assoc (suc a) zero c = refl
-earlier-assoc (suc a) (suc b) zero = refl
-earlier-assoc (suc a) (suc b) (suc c) = omega arith
+tried-assoc : (a b c : ℕ) → firstTried (firstTried a b) c ≡ firstTried a (firstTried b c)
+unfolding firstTried
+tried-assoc zero b c = refl
+tried-assoc (suc a) zero c = refl
+tried-assoc (suc a) (suc b) zero = refl
+tried-assoc (suc a) (suc b) (suc c) = omega arith
 
-hours-first : (h : SheetHour) (hs : List SheetHour) → hoursRefusal (h ∷ hs) ≡ earlier (hourRefusal h) (hoursRefusal hs)
-unfolding hoursRefusal hourRefusal every earlier
+hours-first : (h : SheetHour) (hs : List SheetHour) → hoursRefusal (h ∷ hs) ≡ firstTried (hourRefusal h) (hoursRefusal hs)
+unfolding hoursRefusal hourRefusal every firstTried
 hours-first h hs = go (readingsHold h) (figuresFit h) (every readingsHold hs) (every figuresFit hs)
   where
-    go : (a b c d : Bool) → valuesRefusal (a && c) (b && d) ≡ earlier (valuesRefusal a b) (valuesRefusal c d)
+    go : (a b c d : Bool) → valuesRefusal (a && c) (b && d) ≡ firstTried (valuesRefusal a b) (valuesRefusal c d)
     go true true c d = refl
     go true false true true = refl
     go true false true false = refl
@@ -70,10 +70,10 @@ module _ (sheet : List ℕ) (n k : ℕ) where
       let s : n - k ≡ 0 = omega arith in
       rw s
 
-  rise-next : (below from : ℕ) → k < n → hoursRise below from (hoursFrom sheet k (n - k))
-      ≡ (hourHolds below from (hourAt sheet k) && hoursRise below (hourAt sheet k .hour + 1) (hoursFrom sheet (k + 1) (n - (k + 1))))
+  rise-next : (below from : ℕ) → k < n → hoursRise below from (ranked (sheetHour sheet) k (n - k))
+      ≡ (hourHolds below from (sheetHour sheet k) && hoursRise below (sheetHour sheet k .hour + 1) (ranked (sheetHour sheet) (k + 1) (n - (k + 1))))
   unfolding hoursRise
-  rise-next below from h = rw (hours-next sheet n k h, add-one (hourAt sheet k .hour))
+  rise-next below from h = rw (ranked-next (sheetHour sheet) n k h, add-one (sheetHour sheet k .hour))
 
 unrising : (kinds : Bool) (values : ℕ) → 31 ≡ inOrder kinds false values
 unfolding inOrder
@@ -88,19 +88,19 @@ module _ (below : ℕ) (sheet : List ℕ) (n k from found : ℕ) where
   unfolding refusalFrom inOrder
   pass-kinds j e = rw (kinds-next sheet n k j, e)
 
-  module _ {h : SheetHour} (e : h ≡ hourAt sheet k) where
+  module _ {h : SheetHour} (e : h ≡ sheetHour sheet k) where
     pub pass-hour : k < n → hourHolds below from h ≡ false → 31 ≡ refusalFrom below sheet k (n - k) from found
     unfolding refusalFrom
     pass-hour j f = rw (rise-next sheet n k below from j, rw e at f) (unrising _ _)
 
     pub pass-more : k < n → hourKinds sheet k ≡ true → hourHolds below from h ≡ true
-        → refusalFrom below sheet (k + 1) (n - (k + 1)) (h .hour + 1) (earlier found (hourRefusal h)) ≡ refusalFrom below sheet k (n - k) from found
+        → refusalFrom below sheet (k + 1) (n - (k + 1)) (h .hour + 1) (firstTried found (hourRefusal h)) ≡ refusalFrom below sheet k (n - k) from found
     unfolding refusalFrom
     pass-more j t f =
-        let d = ap hoursRefusal (hours-next sheet n k j) ∙ hours-first (hourAt sheet k) (hoursFrom sheet (k + 1) (n - (k + 1))) in
-        let a = earlier-assoc found (hourRefusal (hourAt sheet k)) (hoursRefusal (hoursFrom sheet (k + 1) (n - (k + 1)))) in
+        let d = ap hoursRefusal (ranked-next (sheetHour sheet) n k j) ∙ hours-first (sheetHour sheet k) (ranked (sheetHour sheet) (k + 1) (n - (k + 1))) in
+        let a = tried-assoc found (hourRefusal (sheetHour sheet k)) (hoursRefusal (ranked (sheetHour sheet) (k + 1) (n - (k + 1)))) in
         rw (kinds-next sheet n k j, t, rise-next sheet n k below from j, rw e at f, d, e, a)
 
   pub pass-end : n ≤ k → found ≡ refusalFrom below sheet k (n - k) from found
   unfolding refusalFrom inOrder hoursRise hoursRefusal every
-  pass-end h = rw (kinds-end sheet n k h, hours-end sheet n k h) (earlier-first found 0 refl)
+  pass-end h = rw (kinds-end sheet n k h, ranked-end (sheetHour sheet) n k h) (tried-first found 0 refl)

@@ -1,10 +1,8 @@
 -- The lines of one hour among those of the others: how a report is written in one pass over the sheet.
-use Prim.Native.Nat.{ℕ, suc, _+_, _≤_, _<_}
-use mathlib.Core.Path.{_≡_}
+use Prim.Native.Nat.{ℕ, suc, _+_}
 use mathlib.Core.List.{List, [], _∷_}
-use lib.ListN.{length}
 use Rattle.columns.specs.Columns.{put}
-use Rattle.layout.specs.Layout.{order, hourly, offsetOf, stackWidth, Held, reportLength}
+use Rattle.layout.specs.Layout.{order, hourly, offsetOf}
 use Rattle.stamp.specs.Stamp.{stampOf}
 use Rattle.formulas.specs.declared.hour.Hour.{Hour}
 use Rattle.layout.specs.declared.RecordType.{RecordType}

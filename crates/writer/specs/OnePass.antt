@@ -3,7 +3,8 @@
 use Prim.Native.Nat.{ℕ, zero, suc, min}
 use mathlib.Core.List.{List}
 use mathlib.Core.Bool.{Bool, true, false}
-use Rattle.sheet.specs.Sheet.{hoursFrom}
+use Rattle.exact.specs.Logic.{ranked}
+use Rattle.sheet.specs.Sheet.{sheetHour}
 use Rattle.sheet.specs.SheetTests.{every, kindsHold, hoursRise, readingsHold}
 use Rattle.writer.specs.Refusals.{figuresFit}
 use Rattle.sheet.specs.declared.SheetHour.{SheetHour}
@@ -19,10 +20,10 @@ unfoldable pub hoursRefusal : List SheetHour → ℕ
 hoursRefusal hs = valuesRefusal (every readingsHold hs) (every figuresFit hs)
 
 -- the one of two refusals that is tried first
-unfoldable pub earlier : ℕ → ℕ → ℕ
-earlier zero b = b
-earlier (suc a) zero = suc a
-earlier (suc a) (suc b) = suc (min a b)
+unfoldable pub firstTried : ℕ → ℕ → ℕ
+firstTried zero b = b
+firstTried (suc a) zero = suc a
+firstTried (suc a) (suc b) = suc (min a b)
 
 -- 31 where the kinds or the hours are wrong, and else the refusal of the values
 unfoldable pub inOrder : Bool → Bool → ℕ → ℕ
@@ -31,4 +32,4 @@ inOrder kinds rises values = elim kinds [ false ↦ 31 | true ↦ elim rises [ f
 -- of so many hours, from hour k on: the hours before it leave those from `from` on, and gave the refusal `found`
 unfoldable pub refusalFrom : ℕ → List ℕ → ℕ → ℕ → ℕ → ℕ → ℕ
 refusalFrom below sheet k left from found =
-    inOrder (kindsHold sheet k left) (hoursRise below from (hoursFrom sheet k left)) (earlier found (hoursRefusal (hoursFrom sheet k left)))
+    let hours = ranked (sheetHour sheet) k left in inOrder (kindsHold sheet k left) (hoursRise below from hours) (firstTried found (hoursRefusal hours))

@@ -7,10 +7,11 @@ use native.Mathlib.Omega.{arith}
 use lib.Dec.{leb}
 use borrow.Author.Tests.{leb-true}
 use Rattle.layout.specs.Layout.{reportLength}
-use Rattle.layout.specs.LayoutLaws.{both, within-true}
+use Rattle.exact.specs.Logic.{both}
+use Rattle.layout.specs.LayoutLaws.{within-true}
 use Rattle.formulas.specs.Hour.{FiguresWithin}
 use Rattle.formulas.specs.declared.hour.Figures.{Figures}
-use Rattle.sheet.specs.Sheet.{hourAt, shapeOf, hoursOf}
+use Rattle.sheet.specs.Sheet.{sheetHour, shapeOf, sheetHours}
 use Rattle.sheet.specs.SheetTests.{every, sheetHolds, readingsHold}
 use Rattle.sheet.specs.TestLaws.{sheet-true, every-hour, rise-hour, shape-held, readings-true}
 use Rattle.writer.specs.Refusals.{figuresHold, figuresFit, refusalOf}
@@ -25,7 +26,7 @@ figures-true f e =
     record { heat = within-true _ _ (c .0); so2 = within-true _ _ (c .1); nox = within-true _ _ (b .1); co2 = within-true _ _ (a .1) }
 
 module _ (year quarter : ℕ) (name sheet : List ℕ) where
-  writable : sheetHolds year quarter name sheet ≡ true → every readingsHold (hoursOf sheet) ≡ true → every figuresFit (hoursOf sheet) ≡ true
+  writable : sheetHolds year quarter name sheet ≡ true → every readingsHold (sheetHours sheet) ≡ true → every figuresFit (sheetHours sheet) ≡ true
       → Writable year quarter name sheet
   writable e r f =
       let s = sheet-true year quarter name sheet e in
@@ -34,7 +35,7 @@ module _ (year quarter : ℕ) (name sheet : List ℕ) where
         held = shape-held year quarter name sheet s;
         hours =
             λ k h.
-            let w = readings-true (hourAt sheet k) (every-hour readingsHold sheet k r h) in
+            let w = readings-true (sheetHour sheet k) (every-hour readingsHold sheet k r h) in
             record {
               exists = rise-hour _ sheet k (s .rises) h;
               within = record { time = w .0; readings = w .1; figures = figures-true _ (every-hour figuresFit sheet k f h) };
@@ -45,12 +46,12 @@ module _ (year quarter : ℕ) (name sheet : List ℕ) where
   pub not-refused : (room : ℕ) → refusalOf year quarter name sheet room ≡ 0 → Writable year quarter name sheet × (reportLength (shapeOf sheet) ≤ room)
   unfolding refusalOf
   not-refused room e =
-      go (sheetHolds year quarter name sheet) refl (every readingsHold (hoursOf sheet)) refl (every figuresFit (hoursOf sheet)) refl
+      go (sheetHolds year quarter name sheet) refl (every readingsHold (sheetHours sheet)) refl (every figuresFit (sheetHours sheet)) refl
       (leb (reportLength (shapeOf sheet)) room) refl e
     where
       go : (a : Bool) → sheetHolds year quarter name sheet ≡ a
-          → (b : Bool) → every readingsHold (hoursOf sheet) ≡ b
-          → (c : Bool) → every figuresFit (hoursOf sheet) ≡ c
+          → (b : Bool) → every readingsHold (sheetHours sheet) ≡ b
+          → (c : Bool) → every figuresFit (sheetHours sheet) ≡ c
           → (d : Bool) → leb (reportLength (shapeOf sheet)) room ≡ d
           → _≡_ {A = ℕ} (elim a [ false ↦ 31 | true ↦ elim b [ false ↦ 32 | true ↦ elim c [ false ↦ 33 | true ↦ elim d [ false ↦ 34 | true ↦ 0 ] ] ] ]) 0
           → Writable year quarter name sheet × (reportLength (shapeOf sheet) ≤ room)

@@ -6,7 +6,7 @@ use lib.Dec.{leb}
 use Rattle.layout.specs.Layout.{within, heatRate, so2Rate, noxRate, co2Rate, reportLength}
 use Rattle.formulas.specs.Formulas.{roundedFigures}
 use Rattle.formulas.specs.declared.hour.Figures.{Figures}
-use Rattle.sheet.specs.Sheet.{shapeOf, hoursOf}
+use Rattle.sheet.specs.Sheet.{shapeOf, sheetHours}
 use Rattle.sheet.specs.SheetTests.{every, sheetHolds, readingsHold}
 use Rattle.sheet.specs.declared.SheetHour.{SheetHour}
 
@@ -24,10 +24,10 @@ refusalOf year quarter name sheet room =
     elim (sheetHolds year quarter name sheet) [
       | false ↦ 31
       | true ↦
-          elim (every readingsHold (hoursOf sheet)) [
+          elim (every readingsHold (sheetHours sheet)) [
             | false ↦ 32
             | true ↦
-                elim (every figuresFit (hoursOf sheet)) [
+                elim (every figuresFit (sheetHours sheet)) [
                   | false ↦ 33
                   | true ↦
                       elim (leb (reportLength (shapeOf sheet)) room) [ false ↦ 34 | true ↦ 0 ]

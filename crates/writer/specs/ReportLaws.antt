@@ -9,9 +9,10 @@ use native.Mathlib.Nat.{mul-le-mul-left}
 use native.Mathlib.Numerals.{add-one}
 use lib.ListN.{length, drop, getD, length-append, length-map}
 use lib.Seq.{drop-append-le, drop-append-add, drop-drop, drop-cons}
+use Rattle.exact.specs.Logic.{All}
 use Rattle.columns.specs.Bytes.{all, isPrintable}
 use Rattle.layout.specs.Layout.{recordOf, order, later, lengthOf, stackWidth, countOf, linesOf, bytesOf, frontOf, offsetOf, reportLength}
-use Rattle.layout.specs.PlaceLaws.{runsOf, run-place}
+use Rattle.layout.specs.PlaceLaws.{joinedRuns, run-place}
 use Rattle.layout.specs.RunLaws.{once-type, runs-length}
 use Rattle.totals.specs.Totals.{quarterTotals}
 use Rattle.layout.specs.declared.Run.{Run}
@@ -22,28 +23,22 @@ use Rattle.layout.specs.declared.Shape.{Shape}
 use Rattle.sheet.specs.declared.SheetHour.{SheetHour}
 use Rattle.writer.specs.Recorded.{recordedHours}
 use Rattle.records.specs.Records.{ended, facilityRecord, totalsRecord}
-use Rattle.writer.specs.Written.{hourRecord, onceRecord, runRecords, recordsOf, lined, report}
+use Rattle.writer.specs.Written.{hourRecord, onceRecord, runRecords, writtenRecords, lined, report}
 use Rattle.records.specs.RecordLaws.{facility-length, totals-length, facility-printable, totals-printable}
 use Rattle.writer.specs.LineLaws.{hour-length, hour-printable}
 
--- what holds of every record of a list
-abbrev pub EachRecord : (List ℕ → Type 0) → List (List ℕ) → Type 0
-EachRecord P [] = Unit {0}
-EachRecord P (r ∷ rs) = P r × EachRecord P rs
-
--- a record of a length and its byte 10
 pub ended-length : (line : List ℕ) {n : ℕ} → length line ≡ n → length (ended line) ≡ n + 1
 ended-length line e = length-append line (10 ∷ []) ∙ omega arith
 
 -- lines of records of one length
 module _ (size : ℕ) where
-  pub lined-length : (rs : List (List ℕ)) → EachRecord (λ r. length r ≡ size) rs → length (lined rs) ≡ (size + 1) * length rs
+  pub lined-length : (rs : List (List ℕ)) → All (λ r. length r ≡ size) rs → length (lined rs) ≡ (size + 1) * length rs
   unfolding lined
   lined-length [] e = omega arith
   lined-length (r ∷ rs) e =
       length-append (ended r) (lined rs) ∙ omega (arith, ended-length r (e .0), lined-length rs (e .1))
 
-  pub lined-drop : (rs : List (List ℕ)) (k : ℕ) → EachRecord (λ r. length r ≡ size) rs → k ≤ length rs → drop ((size + 1) * k) (lined rs) ≡ lined (drop k rs)
+  pub lined-drop : (rs : List (List ℕ)) (k : ℕ) → All (λ r. length r ≡ size) rs → k ≤ length rs → drop ((size + 1) * k) (lined rs) ≡ lined (drop k rs)
   unfolding lined
   lined-drop rs zero e h =
       let z : (size + 1) * 0 ≡ 0 = omega arith in
@@ -58,81 +53,83 @@ module _ (year quarter : ℕ) (name : List ℕ) (hours : List SheetHour) where
   pub records-each : (P : RecordType → List ℕ → Type 0) → P Facility (facilityRecord year quarter name)
       → P QuarterTotals (totalsRecord name (quarterTotals (recordedHours hours)))
       → ((t : RecordType) → recordOf t .run ≡ Hourly → (h : SheetHour) → P t (hourRecord year quarter name t h))
-      → (t : RecordType) → EachRecord (P t) (recordsOf year quarter name hours t)
-  unfolding recordsOf
+      → (t : RecordType) → All (P t) (writtenRecords year quarter name hours t)
+  unfolding writtenRecords
   records-each P first totals each t = go (recordOf t .run) refl
     where
       one : (t ≡ Facility) ⊎ (t ≡ QuarterTotals) → P t (onceRecord year quarter name hours t)
       one (inl e) = rw e first
       one (inr e) = rw e totals
 
-      ofHours : recordOf t .run ≡ Hourly → (hs : List SheetHour) → EachRecord (P t) (map (hourRecord year quarter name t) hs)
+      ofHours : recordOf t .run ≡ Hourly → (hs : List SheetHour) → All (P t) (map (hourRecord year quarter name t) hs)
       ofHours e [] = tt
       ofHours e (h ∷ hs) = (each t e h, ofHours e hs)
 
       go : (run : Run) → recordOf t .run ≡ run
-          → EachRecord (P t) (runRecords run (onceRecord year quarter name hours t) (map (hourRecord year quarter name t) hours))
+          → All (P t) (runRecords run (onceRecord year quarter name hours t) (map (hourRecord year quarter name t) hours))
       go Once e = (one (once-type t e), tt)
       go Hourly e = ofHours e hours
 
-  pub records-printable : all isPrintable name ≡ true → (t : RecordType) → EachRecord (λ r. all isPrintable r ≡ true) (recordsOf year quarter name hours t)
+  pub records-printable : all isPrintable name ≡ true → (t : RecordType) → All (λ r. all isPrintable r ≡ true) (writtenRecords year quarter name hours t)
   records-printable p t =
       records-each (λ t r. all isPrintable r ≡ true) (facility-printable name p year quarter) (totals-printable name p _)
       (λ t e h. hour-printable name p year quarter t h) t
 
-  pub hour-records : (t : RecordType) → recordOf t .run ≡ Hourly → recordsOf year quarter name hours t ≡ map (hourRecord year quarter name t) hours
-  unfolding recordsOf
+  pub hour-records : (t : RecordType) → recordOf t .run ≡ Hourly → writtenRecords year quarter name hours t ≡ map (hourRecord year quarter name t) hours
+  unfolding writtenRecords
   hour-records t e = rw e
 
   module _ (named : length name ≡ stackWidth) where
-    pub records-length : (t : RecordType) → EachRecord (λ r. length r ≡ lengthOf t) (recordsOf year quarter name hours t)
+    pub records-length : (t : RecordType) → All (λ r. length r ≡ lengthOf t) (writtenRecords year quarter name hours t)
     records-length t =
         records-each (λ t r. length r ≡ lengthOf t) (facility-length name named year quarter) (totals-length name named _)
         (λ t e h. hour-length name named year quarter t h) t
 
     -- in a report of a shape
     module _ (s : Shape) (count : length hours ≡ s .hours) where
-      pub records-count : (t : RecordType) → length (recordsOf year quarter name hours t) ≡ countOf s t
-      unfolding recordsOf
+      pub records-count : (t : RecordType) → length (writtenRecords year quarter name hours t) ≡ countOf s t
+      unfolding writtenRecords
       records-count t = go (recordOf t .run)
         where
           go : (run : Run) → length (runRecords run (onceRecord year quarter name hours t) (map (hourRecord year quarter name t) hours)) ≡ linesOf run s
           go Once = refl
           go Hourly = length-map hours (hourRecord year quarter name t) ∙ count
 
-      pub run-length : (t : RecordType) → length (lined (recordsOf year quarter name hours t)) ≡ bytesOf s t
+      pub run-length : (t : RecordType) → length (lined (writtenRecords year quarter name hours t)) ≡ bytesOf s t
       run-length t =
-          lined-length (lengthOf t) (recordsOf year quarter name hours t) (records-length t)
+          lined-length (lengthOf t) (writtenRecords year quarter name hours t) (records-length t)
           ∙ ap (λ (n : ℕ). (lengthOf t + 1) * n) (records-count t)
 
       pub report-length : length (report year quarter name hours) ≡ reportLength s
       unfolding report reportLength
-      report-length = runs-length (λ t. lined (recordsOf year quarter name hours t)) s run-length order
+      report-length = runs-length (λ t. lined (writtenRecords year quarter name hours t)) s run-length order
 
       -- from the k-th record of a type on
       pub records-place : (t : RecordType) (k : ℕ) → k ≤ countOf s t
           → drop (offsetOf s t k) (report year quarter name hours)
-          ≡ lined (drop k (recordsOf year quarter name hours t)) ++ runsOf (λ t. lined (recordsOf year quarter name hours t)) (later t)
+          ≡ lined (drop k (writtenRecords year quarter name hours t)) ++ joinedRuns (λ t. lined (writtenRecords year quarter name hours t)) (later t)
       unfolding report
       records-place t k h =
-          let rs = recordsOf year quarter name hours t in
-          let rest = runsOf (λ t. lined (recordsOf year quarter name hours t)) (later t) in
+          let rs = writtenRecords year quarter name hours t in
+          let rest = joinedRuns (λ t. lined (writtenRecords year quarter name hours t)) (later t) in
           let n : (lengthOf t + 1) * k ≤ length (lined rs) = omega (arith, run-length t, mul-le-mul-left (lengthOf t + 1) h) in
           sym (drop-drop ((lengthOf t + 1) * k) (frontOf s t .bytes) _)
-          ∙ ap (drop ((lengthOf t + 1) * k)) (run-place (λ t. lined (recordsOf year quarter name hours t)) s run-length t)
+          ∙ ap (drop ((lengthOf t + 1) * k)) (run-place (λ t. lined (writtenRecords year quarter name hours t)) s run-length t)
           ∙ drop-append-le ((lengthOf t + 1) * k) (lined rs) rest n
           ∙ ap (λ (l : List ℕ). l ++ rest) (lined-drop (lengthOf t) rs k (records-length t) (omega (arith, records-count t)))
 
       -- the k-th record of a type, its byte 10, and what follows
       abbrev pub behindRecord : RecordType → ℕ → List ℕ
-      behindRecord t k = lined (drop (k + 1) (recordsOf year quarter name hours t)) ++ runsOf (λ t. lined (recordsOf year quarter name hours t)) (later t)
+      behindRecord t k =
+          lined (drop (k + 1) (writtenRecords year quarter name hours t))
+          ++ joinedRuns (λ t. lined (writtenRecords year quarter name hours t)) (later t)
 
       pub record-place : (t : RecordType) (k : ℕ) → k < countOf s t
-          → drop (offsetOf s t k) (report year quarter name hours) ≡ ended (getD (recordsOf year quarter name hours t) k []) ++ behindRecord t k
+          → drop (offsetOf s t k) (report year quarter name hours) ≡ ended (getD (writtenRecords year quarter name hours t) k []) ++ behindRecord t k
       unfolding lined
       record-place t k h =
-          let rs = recordsOf year quarter name hours t in
+          let rs = writtenRecords year quarter name hours t in
           let i : k < length rs = omega (arith, records-count t) in
           records-place t k (omega arith)
-          ∙ ap (λ (l : List (List ℕ)). lined l ++ runsOf (λ t. lined (recordsOf year quarter name hours t)) (later t)) (drop-cons rs k [] i)
+          ∙ ap (λ (l : List (List ℕ)). lined l ++ joinedRuns (λ t. lined (writtenRecords year quarter name hours t)) (later t)) (drop-cons rs k [] i)
           ∙ rw (add-one k) (append-assoc (ended (getD rs k [])) (lined (drop (suc k) rs)) _)

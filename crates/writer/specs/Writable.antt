@@ -7,7 +7,7 @@ use lib.ListN.{length}
 use Rattle.calendar.specs.Calendar.{hoursInQuarter}
 use Rattle.layout.specs.Layout.{Held, stackWidth, reportLength}
 use Rattle.formulas.specs.Hour.{HourWithin}
-use Rattle.sheet.specs.Sheet.{hourAt, hourCount, shapeOf}
+use Rattle.sheet.specs.Sheet.{sheetHour, sheetHourCount, shapeOf}
 use Rattle.sheet.specs.TestLaws.{Shaped}
 use Rattle.sheet.specs.declared.SheetHour.{SheetHour}
 use Rattle.writer.specs.Recorded.{recordedHour}
@@ -21,7 +21,7 @@ pub record HourWritable (year quarter : ℕ) (h : SheetHour) : Type 0 where
 pub record Writable (year quarter : ℕ) (name sheet : List ℕ) : Type 0 where
   pub shaped : Shaped year quarter name sheet
   pub held : Held (shapeOf sheet)
-  pub hours : (k : ℕ) → k < hourCount sheet → HourWritable year quarter (hourAt sheet k)
+  pub hours : (k : ℕ) → k < sheetHourCount sheet → HourWritable year quarter (sheetHour sheet k)
 
 -- and a buffer that has room for its report
 pub record Fits (year quarter : ℕ) (name sheet buffer : List ℕ) : Type 0 where

@@ -3,9 +3,7 @@ use Prim.Native.Nat.{ℕ, zero, suc}
 use mathlib.Core.Bool.{cond}
 use mathlib.Core.List.{List, [], _∷_, _++_, map}
 use lib.Dec.{eqb}
-use lib.ListN.{length, drop, replicate}
-use Rattle.columns.specs.Columns.{put}
-use Rattle.columns.specs.Written.{digitsOf, written}
+use lib.ListN.{length, drop}
 use Rattle.layout.specs.Layout.{
   recordOf,
   codeOf,
@@ -20,12 +18,9 @@ use Rattle.layout.specs.Layout.{
   valuesOf,
   reportLength,
 }
-use Rattle.layout.specs.PlaceLaws.{runsOf}
+use Rattle.layout.specs.PlaceLaws.{joinedRuns}
 use Rattle.stamp.specs.Stamp.{stampOf}
 use Rattle.totals.specs.Totals.{quarterTotals}
-use Rattle.formulas.specs.declared.hour.Hour.{Hour}
-use Rattle.totals.specs.declared.Quarter.{Quarter}
-use Rattle.layout.specs.declared.Value.{Value}
 use Rattle.layout.specs.declared.Run.{Run}
 use Rattle.layout.specs.declared.Run.the-variants.{Once, Hourly}
 use Rattle.layout.specs.declared.RecordType.{RecordType}
@@ -41,7 +36,7 @@ use Rattle.layout.specs.declared.RecordType.the-variants.{
   NoxRate,
   Co2Mass,
 }
-use Rattle.sheet.specs.Sheet.{shapeOf, hoursOf}
+use Rattle.sheet.specs.Sheet.{shapeOf, sheetHours}
 use Rattle.sheet.specs.declared.SheetHour.{SheetHour}
 use Rattle.records.specs.Records.{ended, facilityRecord, datedRecord, totalsRecord}
 use Rattle.writer.specs.Recorded.{recordedHour, recordedHours}
@@ -63,8 +58,8 @@ runRecords Once one ofHours = one ∷ []
 runRecords Hourly one ofHours = ofHours
 
 -- the records of a type in a report
-unfoldable pub recordsOf : ℕ → ℕ → List ℕ → List SheetHour → RecordType → List (List ℕ)
-recordsOf year quarter name hours t = runRecords (recordOf t .run) (onceRecord year quarter name hours t) (map (hourRecord year quarter name t) hours)
+unfoldable pub writtenRecords : ℕ → ℕ → List ℕ → List SheetHour → RecordType → List (List ℕ)
+writtenRecords year quarter name hours t = runRecords (recordOf t .run) (onceRecord year quarter name hours t) (map (hourRecord year quarter name t) hours)
 
 -- records as lines, one after the other
 unfoldable pub lined : List (List ℕ) → List ℕ
@@ -73,7 +68,7 @@ lined (r ∷ rs) = ended r ++ lined rs
 
 -- the lines of each type, in the order of a report
 unfoldable pub report : ℕ → ℕ → List ℕ → List SheetHour → List ℕ
-report year quarter name hours = runsOf (λ t. lined (recordsOf year quarter name hours t)) order
+report year quarter name hours = joinedRuns (λ t. lined (writtenRecords year quarter name hours t)) order
 
 -- to a sheet and a buffer of so many bytes
 unfoldable pub answered : ℕ → ℕ → List ℕ → List ℕ → ℕ → Written
@@ -84,6 +79,6 @@ answered year quarter name sheet room =
 unfoldable pub buffered : ℕ → ℕ → List ℕ → List ℕ → List ℕ → List ℕ
 buffered year quarter name sheet buffer =
     elim (refusalOf year quarter name sheet (length buffer)) [
-      | zero ↦ report year quarter name (hoursOf sheet) ++ drop (reportLength (shapeOf sheet)) buffer
+      | zero ↦ report year quarter name (sheetHours sheet) ++ drop (reportLength (shapeOf sheet)) buffer
       | suc c ↦ buffer
     ]

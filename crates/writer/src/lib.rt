@@ -23,10 +23,10 @@ pub fn write(
     ensures { λ r. ⌜ (r ≡ answered year quarter name (now (sheet .entry)) (length (now (buffer .entry))))
         × (now (buffer .exit) ≡ buffered year quarter name (now (sheet .entry)) (now (buffer .entry))) ⌝ }
 {
-    let refusal = refusals::refusal(year, quarter, &name, sheet, buffer.len());
+    let refusal = refusals::refusal_of(&name, sheet, year, quarter, buffer.len());
     if refusal != 0 {
         return Written::Refused(refusal);
     }
-    report::write_report(buffer, year, quarter, &name, sheet);
+    report::write_report(buffer, &name, sheet, year, quarter);
     Written::Length(layout::report_length(sheet::shape_of(sheet)))
 }

@@ -2,9 +2,9 @@
 use formulas::hour::Figures;
 use sheet::SheetHour;
 ghost use mathlib.Core.Path.{_≡_};
-ghost use Rattle.sheet.specs.Sheet.{hourCount};
+ghost use Rattle.sheet.specs.Sheet.{sheetHourCount};
 ghost use Rattle.writer.specs.Refusals.{figuresHold, refusalOf};
-ghost use Rattle.writer.specs.OnePass.{hourRefusal, earlier, refusalFrom};
+ghost use Rattle.writer.specs.OnePass.{hourRefusal, firstTried, refusalFrom};
 
 // 33: the figures fit their columns.
 fn figures_hold(f: Figures) -> bool
@@ -30,8 +30,8 @@ fn hour_refusal(h: SheetHour) -> u64
 }
 
 // The one of two refusals that is tried first; 0 is none.
-fn earlier(a: u64, b: u64) -> u64
-    ensures { λ r. ⌜ r ≡ earlier a b ⌝ }
+fn first_tried(a: u64, b: u64) -> u64
+    ensures { λ r. ⌜ r ≡ firstTried a b ⌝ }
 {
     if a == 0 {
         return b;
@@ -46,8 +46,8 @@ fn earlier(a: u64, b: u64) -> u64
 }
 
 // 31 to 33, in one pass over the hours.
-fn sheet_refusal(below: u64, sheet: &[u32]) -> u64
-    ensures { λ r. ⌜ r ≡ refusalFrom below (now (sheet .entry)) 0 (hourCount (now (sheet .entry))) 0 0 ⌝ }
+fn sheet_refusal(sheet: &[u32], below: u64) -> u64
+    ensures { λ r. ⌜ r ≡ refusalFrom below (now (sheet .entry)) 0 (sheetHourCount (now (sheet .entry))) 0 0 ⌝ }
 {
     let n = sheet::shape_of(sheet).hours;
     let mut from = 0;
@@ -61,7 +61,7 @@ fn sheet_refusal(below: u64, sheet: &[u32]) -> u64
         if !sheet::hour_holds(below, from, h) {
             return 31;
         }
-        found = earlier(found, hour_refusal(h));
+        found = first_tried(found, hour_refusal(h));
         from = h.hour + 1;
         k += 1;
     }
@@ -69,16 +69,16 @@ fn sheet_refusal(below: u64, sheet: &[u32]) -> u64
 }
 
 // The number of the first refusal; 0 where there is none.
-pub fn refusal(year: u64, quarter: u64, name: &[u8], sheet: &[u32], room: usize) -> u64
+pub fn refusal_of(name: &[u8], sheet: &[u32], year: u64, quarter: u64, room: usize) -> u64
     ensures { λ r. ⌜ r ≡ refusalOf year quarter (now (name .entry)) (now (sheet .entry)) room ⌝ }
 {
-    if !sheet::heading_holds(year, quarter, name) {
+    if !sheet::heading_holds(name, year, quarter) {
         return 31;
     }
     if sheet.len() % sheet::HOUR_WORDS != 0 {
         return 31;
     }
-    let found = sheet_refusal(calendar::hours_in_quarter(year, quarter), sheet);
+    let found = sheet_refusal(sheet, calendar::hours_in_quarter(year, quarter));
     if found != 0 {
         return found;
     }

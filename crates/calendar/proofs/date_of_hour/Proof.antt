@@ -1,11 +1,21 @@
 -- `calendar::date_of_hour` is `dateOfHour`: each date is shown by the law `date-at`. Assumes nothing.
 use native.Mathlib.Omega.{arith}
 use mathlib.Core.Path.{refl, sym}
-use Rattle.calendar.specs.MonthLaws.{month-length, starts}
+use Rattle.calendar.specs.MonthLaws.{month-length, Starts, starts}
 use Rattle.calendar.specs.CalendarLaws.{hours-from, date-at}
 use borrow.Author.Needs.{needs}
 use Rattle.calendar.proofs.date_of_hour.Statement.{statement}
 use Rattle.calendar.proofs.date_of_hour.Tie as tie
+
+-- the places of the code, each from the next one below it
+abbrev first : tie.After-days-in-month → tie.After-first-month
+first c = c .before
+
+abbrev second : tie.After-days-in-month2 → tie.After-days-in-month
+second c = c .before .before
+
+months : (c : tie.After-first-month) → Starts (c .before .args .year) (c .first-month .result)
+months c = starts _ _
 
 first-month-requires : tie.Need-first-month-requires
 first-month-requires c κs = search needs
@@ -18,10 +28,9 @@ add-t9 c = search needs
 
 returns : tie.Need-returns
 returns c =
-    let first = c .before .before .first-month in
-    let d = c .before .before .before .args in
-    let s = starts (d .year) (first .result) in
-    sym (date-at (d .year) (d .quarter) (first .result) (first .ensures) _ (d .hour) (omega arith) (omega arith) refl)
+    let f = first (c .before) in
+    let s = months f in
+    sym (date-at _ _ _ (f .first-month .ensures) _ _ (omega arith) (omega arith) refl)
 
 add-days-in-month : tie.Need-add-days-in-month
 add-days-in-month c = search needs
@@ -30,7 +39,7 @@ days-in-month-requires-2 : tie.Need-days-in-month-requires-2
 days-in-month-requires-2 c κs = search needs
 
 add-third : tie.Need-add-third
-add-third c = omega (arith, month-length _ _ _ (c .days-in-month2 .ensures), month-length _ _ _ (c .before .before .days-in-month .ensures))
+add-third c = omega (arith, month-length _ _ _ (c .days-in-month2 .ensures), month-length _ _ _ (second c .days-in-month .ensures))
 
 add-t13 : tie.Need-add-t13
 add-t13 c = search needs
@@ -40,10 +49,9 @@ add-t15 c = search needs
 
 returns-2 : tie.Need-returns-2
 returns-2 c =
-    let first = c .before .before .before .before .first-month in
-    let d = c .before .before .before .before .before .args in
-    let s = starts (d .year) (first .result) in
-    sym (date-at (d .year) (d .quarter) (first .result) (first .ensures) _ (d .hour) (omega arith) (omega arith) refl)
+    let f = first (second (c .before)) in
+    let s = months f in
+    sym (date-at _ _ _ (f .first-month .ensures) _ _ (omega arith) (omega arith) refl)
 
 add-t12 : tie.Need-add-t12
 add-t12 c = search needs
@@ -53,11 +61,10 @@ add-t17 c = search needs
 
 returns-3 : tie.Need-returns-3
 returns-3 c =
-    let first = c .before .before .before .before .first-month in
-    let d = c .before .before .before .before .before .args in
-    let s = starts (d .year) (first .result) in
-    let h = hours-from (d .year) (d .quarter) (first .result) (first .ensures) in
-    sym (date-at (d .year) (d .quarter) (first .result) (first .ensures) _ (d .hour) (omega arith) (omega arith) refl)
+    let f = first (second (c .before)) in
+    let s = months f in
+    let h = hours-from (f .before .args .year) (f .before .args .quarter) _ (f .first-month .ensures) in
+    sym (date-at _ _ _ (f .first-month .ensures) _ _ (omega arith) (omega arith) refl)
 
 pub date-of-hour-spec : {M : Type 1} → statement M
 date-of-hour-spec =

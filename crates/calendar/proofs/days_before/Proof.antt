@@ -8,8 +8,13 @@ use borrow.Author.Needs.{needs}
 use Rattle.calendar.proofs.days_before.Statement.{statement}
 use Rattle.calendar.proofs.days_before.Tie as tie
 
+abbrev start : tie.After-days-in-month → tie.Start
+start c = c .before .before
+
 returns : tie.Need-returns
-returns c = sym (ap (daysBefore (c .before .args .year) (c .before .args .first)) (c .if1 .taken) ∙ starts (c .before .args .year) (c .before .args .first) .one)
+returns c =
+    let d = c .before .args in
+    sym (ap (daysBefore (d .year) (d .first)) (c .if1 .taken) ∙ starts (d .year) (d .first) .one)
 
 days-in-month-requires : tie.Need-days-in-month-requires
 days-in-month-requires c κs = search needs
@@ -19,7 +24,7 @@ add-if2 c = search needs
 
 returns-2 : tie.Need-returns-2
 returns-2 c =
-    let d = c .before .before .before .args in
+    let d = start (c .before) .args in
     c .before .days-in-month .ensures ∙ sym (ap (daysBefore (d .year) (d .first)) (c .if2 .taken) ∙ starts (d .year) (d .first) .two)
 
 add-days-in-month : tie.Need-add-days-in-month
@@ -33,7 +38,7 @@ add-result c = omega (arith, month-length _ _ _ (c .days-in-month2 .ensures), mo
 
 returns-3 : tie.Need-returns-3
 returns-3 c =
-    let d = c .before .before .before .before .args in
+    let d = start (c .before .before) .args in
     let e : d .month ≡ d .first + 2 = omega arith in
     omega (arith, ap (daysBefore (d .year) (d .first)) e, starts (d .year) (d .first))
 

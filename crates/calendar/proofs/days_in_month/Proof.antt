@@ -12,11 +12,11 @@ is-leap-requires c κs = search needs
 
 returns : tie.Need-returns
 unfolding daysInMonth
-returns c = simp (eq-eqb (c .before .before .before .args .month) 2 (c .before .before .match .keys1), sym (c .before .is-leap .ensures) ∙ c .if1 .taken)
+returns c = simp (eq-eqb _ 2 (c .before .before .match .keys1), sym (c .before .is-leap .ensures) ∙ c .if1 .taken)
 
 returns-2 : tie.Need-returns-2
 unfolding daysInMonth
-returns-2 c = simp (eq-eqb (c .before .before .before .args .month) 2 (c .before .before .match .keys1), sym (c .before .is-leap .ensures) ∙ c .if1 .left)
+returns-2 c = simp (eq-eqb _ 2 (c .before .before .match .keys1), sym (c .before .is-leap .ensures) ∙ c .if1 .left)
 
 returns-3 : tie.Need-returns-3
 unfolding daysInMonth

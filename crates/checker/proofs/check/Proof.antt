@@ -4,7 +4,7 @@ use mathlib.Core.List.{List}
 use Prim.Native.Nat.{ℕ}
 use Rattle.reading.specs.Reading.{readOf}
 use Rattle.reading.specs.CleanFile.{clean-file, clean-hour}
-use Rattle.reading.specs.declared.Reading.{Reading}
+use Rattle.reading.specs.declared.Reading.the-variants.{Clean}
 use Rattle.checker.specs.Checked.{afterReading, checked}
 use Rattle.checker.specs.Promise.{Promise}
 use Rattle.checker.specs.PromiseLaws.{promise}
@@ -15,6 +15,19 @@ use Rattle.checker.proofs.check.Tie as tie
 
 kept : (file : List ℕ) (r : Answer) → r ≡ checked file → (r ≡ checked file) × Promise file r
 kept file r e = (e, rw e (promise file))
+
+-- the file that was read, and what the match on the reading tells
+abbrev file : tie.After-read → List ℕ
+file c = c .before .before .args .file .now
+
+abbrev refused : tie.After-reading → tie.After-read
+refused c = c .before .before
+
+abbrev clean : tie.After-reading2 → tie.After-read
+clean c = c .before .before
+
+said : (c : tie.After-reading2) → readOf (file (clean c)) ≡ Clean (c .reading2 .given .0 .0)
+said c = sym (clean c .read .ensures) ∙ c .reading2 .given .1
 
 read-requires : tie.Need-read-requires
 read-requires c κs = search needs
@@ -27,24 +40,21 @@ enum-known-reading-2 c = search needs
 
 judge-requires : tie.Need-judge-requires
 judge-requires c κs =
-    let file = c .before .before .before .before .before .args .file .now in
-    let e = sym (c .before .before .before .read .ensures) ∙ c .before .reading2 .given .1 in
-    let f = clean-file file _ e in
-    record { standing = f .standing; within = clean-hour file _ f }
+    let l = file (clean (c .before)) in
+    let f = clean-file l _ (said (c .before)) in
+    record { standing = f .standing; within = clean-hour l _ f }
 
 returns : tie.Need-returns
 unfolding afterReading checked
 returns c =
-    let file = c .before .before .before .before .before .args .file .now in
-    let e = sym (c .before .before .before .read .ensures) ∙ c .before .reading .given .1 in
-    kept file _ (sym (ap (afterReading file) e))
+    let r = refused (c .before) in
+    kept (file r) _ (sym (ap (afterReading (file r)) (sym (r .read .ensures) ∙ c .before .reading .given .1)))
 
 returns-2 : tie.Need-returns-2
 unfolding afterReading checked
 returns-2 c =
-    let file = c .before .before .before .before .before .before .args .file .now in
-    let e = sym (c .before .before .before .before .read .ensures) ∙ c .before .before .reading2 .given .1 in
-    kept file (c .judge .result) (c .judge .ensures ∙ sym (ap (afterReading file) e))
+    let l = file (clean (c .before .before)) in
+    kept l (c .judge .result) (c .judge .ensures ∙ sym (ap (afterReading l) (said (c .before .before))))
 
 pub check-spec : {M : Type 1} → statement M
 check-spec =

@@ -1,48 +1,36 @@
--- `checker::compare` meets its contract: the first of the four totals that differs is refused.
-use mathlib.Core.Path.{sym, _∙_}
-use Rattle.checker.specs.JudgedLaws.{Agree, totals-agree}
-use Rattle.checker.proofs.Pass.{so2-differs, co2-differs, heat-differs, nox-differs}
+-- Accepted without a fault of the totals, and refused with it.
+use Prim.Native.Nat.{ℕ, zero, suc}
+use mathlib.Core.Path.{_≡_, refl, sym, ap, _∙_}
 use borrow.Author.Needs.{needs}
+use Rattle.totals.specs.declared.Quarter.{Quarter}
+use Rattle.checker.specs.Checked.{refusedAt, verdict, comparedTotals}
 use Rattle.checker.proofs.compare.Statement.{statement}
 use Rattle.checker.proofs.compare.Tie as tie
+
+faulty : (fault line : ℕ) (formed : Quarter) → (fault ≡ 0 → ⊥) → refusedAt fault line ≡ verdict fault line formed
+faulty zero line formed h = absurd (h refl)
+faulty (suc fault) line formed h = refl
+
+totals-fault-requires : tie.Need-totals-fault-requires
+totals-fault-requires c κs = search needs
+
+returns : tie.Need-returns
+unfolding comparedTotals
+returns c =
+    let t = c .before in
+    let a = t .before .args in
+    sym (ap (λ (n : ℕ). verdict n (a .line) (a .formed)) (sym (t .totals-fault .ensures) ∙ c .if1 .taken))
 
 refused-requires : tie.Need-refused-requires
 refused-requires c κs = search needs
 
-returns : tie.Need-returns
-returns c = let a = c .before .before .before .before .args in c .refused .ensures ∙ so2-differs (a .line) (a .formed) (a .stated) (c .before .if1 .taken)
-
-refused-requires-2 : tie.Need-refused-requires-2
-refused-requires-2 c κs = search needs
-
 returns-2 : tie.Need-returns-2
-returns-2 c = let a = c .before .before .before .before .before .before .before .args in c .refused2 .ensures ∙ co2-differs (a .line) (a .formed) (a .stated) (c .before .before .before .before .if1 .left) (c .before .if2 .taken)
-
-refused-requires-3 : tie.Need-refused-requires-3
-refused-requires-3 c κs = search needs
-
-returns-3 : tie.Need-returns-3
-returns-3 c = let a = c .before .before .before .before .before .before .before .before .before .before .args in c .refused3 .ensures ∙ heat-differs (a .line) (a .formed) (a .stated) (c .before .before .before .before .before .before .before .if1 .left) (c .before .before .before .before .if2 .left) (c .before .if3 .taken)
-
-refused-requires-4 : tie.Need-refused-requires-4
-refused-requires-4 c κs = search needs
-
-returns-4 : tie.Need-returns-4
-returns-4 c = let a = c .before .before .before .before .before .before .before .before .before .before .before .before .before .args in c .refused4 .ensures ∙ nox-differs (a .line) (a .formed) (a .stated) (c .before .before .before .before .before .before .before .before .before .before .if1 .left) (c .before .before .before .before .before .before .before .if2 .left) (c .before .before .before .before .if3 .left) (c .before .if4 .taken)
-
-returns-5 : tie.Need-returns-5
-returns-5 c = let a = c .before .before .before .before .before .before .before .before .before .before .before .before .args in sym (totals-agree (a .line) (a .formed) (a .stated) (record { so2 = c .before .before .before .before .before .before .before .before .before .if1 .left; co2 = c .before .before .before .before .before .before .if2 .left; heat = c .before .before .before .if3 .left; nox = c .if4 .left }))
+unfolding comparedTotals
+returns-2 c =
+    let t = c .before .before in
+    let a = t .before .args in
+    c .refused .ensures ∙ faulty (t .totals-fault .result) (a .line) (a .formed) (c .before .if1 .left)
+    ∙ ap (λ (n : ℕ). verdict n (a .line) (a .formed)) (t .totals-fault .ensures)
 
 pub compare-spec : {M : Type 1} → statement M
-compare-spec =
-    tie.close
-    (tie.spec
-    refused-requires
-    returns
-    refused-requires-2
-    returns-2
-    refused-requires-3
-    returns-3
-    refused-requires-4
-    returns-4
-    returns-5)
+compare-spec = tie.close (tie.spec totals-fault-requires returns refused-requires returns-2)

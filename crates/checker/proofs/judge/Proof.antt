@@ -1,24 +1,21 @@
 -- `checker::judge` meets its contract: what is left to judge from each hour, and from each figure of it, is what is left of the whole.
-use Prim.Native.Nat.{ℕ, suc, _+_, _-_, _*_, _≤_, _<_}
-use mathlib.Core.Path.{_≡_, refl, sym, ap, _∙_}
+use Prim.Native.Nat.{ℕ, _+_, _-_, _<_}
+use mathlib.Core.Path.{_≡_, sym, ap, _∙_}
 use mathlib.Core.Bool.{true, false}
 use mathlib.Core.List.{List}
 use mathlib.Core.Logic.{⊎-elim}
 use native.Mathlib.Omega.{arith}
-use borrow.Author.Needs.{needs}
 use borrow.Author.Tests.{not-true, not-false}
 use Rattle.layout.specs.declared.Shape.{Shape}
 use Rattle.formulas.specs.Hour.{HourWithin}
 use Rattle.formulas.specs.Formulas.{passesTest}
-use Rattle.formulas.specs.declared.hour.Hour.{Hour}
-use Rattle.totals.specs.TotalLaws.{grown-hours}
 use Rattle.totals.specs.declared.Totals.{Totals}
-use Rattle.reading.specs.Places.{Standing}
 use Rattle.reading.specs.declared.Refusal.{Refusal}
-use Rattle.checker.specs.Checked.{quantityAt, judged}
+use Rattle.checker.specs.Checked.{quantityAt}
 use Rattle.checker.specs.Judging.{Judgeable}
 use Rattle.checker.specs.declared.Answer.the-variants.{Refused}
-use Rattle.checker.proofs.Pass.{figure-line, left-first, left-hour, figure-passed, figure-failed, figures-done, totals-first, totals-next, pass-end, HourPass, FigurePass}
+use Rattle.checker.proofs.Pass.{figure-line, left-first, left-hour, figure-passed, figure-failed, totals-first}
+use Rattle.checker.proofs.Pass.{pass-next, pass-end, HourPass, FigurePass}
 use Rattle.checker.proofs.judge.Statement.{statement}
 use Rattle.checker.proofs.judge.Tie as tie
 
@@ -38,15 +35,18 @@ abbrev Hours : Type 0
 Hours = tie.At-hours Inv-loop μ-loop Inv-hours μ-hours
 
 -- where the loop over the hours stands
+abbrev start : Hours → tie.Start Inv-loop μ-loop Inv-hours μ-hours
+start c = c .before .before .before
+
 module _ (c : Hours) where
   abbrev file : List ℕ
-  file = c .before .before .before .args .file .now
+  file = start c .args .file .now
 
   abbrev shape : Shape
-  shape = c .before .before .before .args .s
+  shape = start c .args .s
 
   abbrev judgeable : Judgeable file shape
-  judgeable = c .before .before .before .pre
+  judgeable = start c .pre
 
 -- an hour was read
 abbrev standing : tie.After-hour Inv-loop μ-loop Inv-hours μ-hours → Hours
@@ -58,9 +58,19 @@ below c = let p = standing c .hours .inv .few in omega (arith, c .before .if1 .l
 within : (c : tie.After-hour Inv-loop μ-loop Inv-hours μ-hours) → HourWithin (c .hour .result)
 within c = rw (c .hour .ensures) (judgeable (standing c) .within (standing c .hours .k) (below c))
 
--- a figure of it was looked at
-abbrev hourOf : tie.After-figure-passes Inv-loop μ-loop Inv-hours μ-hours → tie.After-hour Inv-loop μ-loop Inv-hours μ-hours
-hourOf c = c .before .before .before .before
+-- a figure of it is looked at
+abbrev figure : tie.After-quantity-at Inv-loop μ-loop Inv-hours μ-hours → tie.At-loop Inv-loop μ-loop Inv-hours μ-hours
+figure c = c .before .before
+
+abbrev passed : tie.After-figure-passes Inv-loop μ-loop Inv-hours μ-hours → tie.After-quantity-at Inv-loop μ-loop Inv-hours μ-hours
+passed c = c .before
+
+abbrev hourOf : tie.At-loop Inv-loop μ-loop Inv-hours μ-hours → tie.After-hour Inv-loop μ-loop Inv-hours μ-hours
+hourOf c = c .before
+
+-- all its figures passed, and it was added
+abbrev added : tie.After-with-hour Inv-loop μ-loop Inv-hours μ-hours → tie.At-loop Inv-loop μ-loop Inv-hours μ-hours
+added c = c .before .before
 
 none-requires : tie.Need-none-requires Inv-loop μ-loop Inv-hours μ-hours
 none-requires c κs = tt
@@ -93,7 +103,7 @@ quantity-at-requires : tie.Need-quantity-at-requires Inv-loop μ-loop Inv-hours 
 quantity-at-requires c κs = tt
 
 figure-passes-requires : tie.Need-figure-passes-requires Inv-loop μ-loop Inv-hours μ-hours
-figure-passes-requires c κs = within (c .before .before .before)
+figure-passes-requires c κs = within (hourOf (figure c))
 
 add-t15 : tie.Need-add-t15 Inv-loop μ-loop Inv-hours μ-hours
 add-t15 c = omega arith
@@ -103,7 +113,7 @@ type-for-requires c κs = tt
 
 line-of-requires : tie.Need-line-of-requires Inv-loop μ-loop Inv-hours μ-hours
 line-of-requires c κs =
-    let h = hourOf (c .before .before) in
+    let h = hourOf (figure (passed (c .before .before))) in
     let d = judgeable (standing h) .standing .held in
     (d, omega (arith, below h, d .hours))
 
@@ -116,52 +126,53 @@ loop-less c = omega arith
 loop-again : tie.Need-loop-again Inv-loop μ-loop Inv-hours μ-hours
 loop-again c =
     let g = c .before in
-    let h = hourOf g in
+    let a = passed g in
+    let f = figure a in
+    let h = hourOf f in
     let o = standing h in
-    let l = g .before .before .before .loop in
-    let q = g .before .quantity-at .ensures in
+    let l = f .loop in
+    let q = a .quantity-at .ensures in
     let p : passesTest (quantityAt (l .j)) (h .hour .result) ≡ true =
     rw q at (sym (g .figure-passes .ensures .test) ∙ not-false (g .figure-passes .result) (c .if2 .left)) in
     record {
-      few = omega (arith, g .before .before .loop-test .taken);
-      rest = sym (figure-passed (file o) (shape o) (o .hours .k) (h .hour .result) (l .j) (g .before .before .loop-test .taken) p) ∙ l .inv .rest;
+      few = omega (arith, a .before .loop-test .taken);
+      rest = sym (figure-passed (file o) (shape o) (o .hours .k) (h .hour .result) (l .j) (a .before .loop-test .taken) p) ∙ l .inv .rest;
     }
 
 with-hour-requires : tie.Need-with-hour-requires Inv-loop μ-loop Inv-hours μ-hours
 with-hour-requires c κs =
-    let h = c .before .before in
+    let h = hourOf (c .before) in
     let i = standing h .hours .inv in
     let w = within h in
     (i .room, omega (arith, below h, i .count, judgeable (standing h) .standing .held .hours), w .figures, w .time .most)
 
 add-k : tie.Need-add-k Inv-loop μ-loop Inv-hours μ-hours
-add-k c = let h = c .before .before .before in omega (arith, below h, judgeable (standing h) .standing .held .hours)
+add-k c = let h = hourOf (added c) in omega (arith, below h, judgeable (standing h) .standing .held .hours)
 
 hours-less : tie.Need-hours-less Inv-loop μ-loop Inv-hours μ-hours
-hours-less c = omega (arith, below (c .before .before .before))
+hours-less c = omega (arith, below (hourOf (added c)))
 
 hours-again : tie.Need-hours-again Inv-loop μ-loop Inv-hours μ-hours
 hours-again c =
-    let h = c .before .before .before in
+    let l = added c in
+    let h = hourOf l in
     let o = standing h in
-    let i = o .hours .inv in
-    let l = c .before .before .loop in
     let t = c .with-hour in
-    let b = below h in
-    let j : l .j ≡ 4 = omega (arith, l .inv .few, c .before .loop-test .left) in
-    record {
-      few = omega arith;
-      room = t .ensures .1;
-      count =
-          ap (λ (x : Totals). x .hours) (t .ensures .0) ∙ grown-hours (o .hours .totals) (h .hour .result .figures) (h .hour .result .time)
-          ∙ ap (λ (n : ℕ). n + 1) (i .count);
-      sums = rw (t .ensures .0, h .hour .ensures) (totals-next (file o) (shape o) (o .hours .totals) (o .hours .k) b ∙ i .sums);
-      rest = sym (figures-done (file o) (shape o) (o .hours .k) (h .hour .result)) ∙ rw j at (l .inv .rest);
-    }
+    pass-next (file o) (shape o) (o .hours .totals) (o .hours .k) (h .hour .result) (l .loop .j) (t .result) (o .hours .inv) (below h)
+    (h .hour .ensures) (t .ensures .0) (t .ensures .1) (l .loop .inv) (omega (arith, c .before .loop-test .left))
 
--- the pass was left
+-- the pass was left, and the totals were formed
 abbrev ended : tie.After-struct-known Inv-loop μ-loop Inv-hours μ-hours → Hours
 ended c = c .before .before
+
+abbrev clean : tie.After-line-of2 Inv-loop μ-loop Inv-hours μ-hours → tie.Else3 Inv-loop μ-loop Inv-hours μ-hours
+clean c = c .before
+
+abbrev lined : tie.After-quarter Inv-loop μ-loop Inv-hours μ-hours → tie.After-line-of2 Inv-loop μ-loop Inv-hours μ-hours
+lined c = c .before
+
+abbrev formed : tie.After-totals Inv-loop μ-loop Inv-hours μ-hours → tie.After-quarter Inv-loop μ-loop Inv-hours μ-hours
+formed c = c .before
 
 returns : tie.Need-returns Inv-loop μ-loop Inv-hours μ-hours
 returns c =
@@ -185,26 +196,28 @@ line-of-requires-2 : tie.Need-line-of-requires-2 Inv-loop μ-loop Inv-hours μ-h
 line-of-requires-2 c κs = (judgeable (ended (c .before)) .standing .held, omega arith)
 
 quarter-requires : tie.Need-quarter-requires Inv-loop μ-loop Inv-hours μ-hours
-quarter-requires c κs = ended (c .before .before) .hours .inv .room
+quarter-requires c κs = ended (clean c .before) .hours .inv .room
 
 totals-requires : tie.Need-totals-requires Inv-loop μ-loop Inv-hours μ-hours
-totals-requires c κs = judgeable (ended (c .before .before .before)) .standing
+totals-requires c κs = judgeable (ended (clean (lined c) .before)) .standing
 
 compare-requires : tie.Need-compare-requires Inv-loop μ-loop Inv-hours μ-hours
 compare-requires c κs = tt
 
 returns-2 : tie.Need-returns-2 Inv-loop μ-loop Inv-hours μ-hours
 returns-2 c =
-    let g = c .before .before .before .before .before in
+    let t = c .before in
+    let q = formed t in
+    let n = lined q in
+    let g = clean n .before in
     let o = ended g in
     let h = o .hours in
     let d = judgeable o .standing in
     ⊎-elim
     (λ x.
     c .compare .ensures
-    ∙ rw (c .before .before .before .line-of2 .ensures, c .before .before .quarter .ensures, c .before .totals .ensures)
-    (pass-end (file o) (shape o) (h .totals) (h .k) d (h .inv) (x .0 .taken)))
-    (λ x. absurd (let y = ap (λ (y : Refusal). y .number) (x .9) in omega (arith, c .before .before .before .before .if3 .left)))
+    ∙ pass-end (file o) (shape o) (h .totals) (h .k) d (h .inv) (x .0 .taken) (n .line-of2 .ensures) (q .quarter .ensures) (t .totals .ensures))
+    (λ x. absurd (let y = ap (λ (y : Refusal). y .number) (x .9) in omega (arith, clean n .if3 .left)))
     (g .before .if1 .came)
 
 pub judge-spec : {M : Type 1} → statement M

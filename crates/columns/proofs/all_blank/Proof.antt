@@ -1,5 +1,6 @@
 -- Every byte is a blank: what is left from place i on decides as the whole does.
-use Prim.Native.Nat.{_-_, _≤_}
+use Prim.Native.Nat.{ℕ, _-_, _≤_}
+use mathlib.Core.List.{List}
 use mathlib.Core.Path.{_≡_, refl, sym, _∙_}
 use native.Mathlib.Omega.{arith}
 use lib.ListN.{length, drop, getD}
@@ -15,6 +16,13 @@ Inv-loop bytes i₀ i = (i ≤ length bytes) × (all isBlank (drop i bytes) ≡ 
 abbrev μ-loop : tie.MeasureT-loop
 μ-loop bytes i₀ i = length bytes - i
 
+-- the places of the code, each from the next one below it
+abbrev passed : tie.After-shared-slice-known Inv-loop μ-loop → tie.At-loop Inv-loop μ-loop
+passed c = c .before .before
+
+abbrev bytes : tie.At-loop Inv-loop μ-loop → List ℕ
+bytes c = c .before .args .bytes .now
+
 loop-holds : tie.Need-loop-holds Inv-loop μ-loop
 loop-holds c = (omega arith, refl)
 
@@ -23,9 +31,8 @@ shared-slice-read-if1 c = omega arith
 
 returns : tie.Need-returns Inv-loop μ-loop
 returns c =
-    let l = c .before .before .before .loop in
-    let bytes = c .before .before .before .before .args .bytes .now in
-    sym (sym (l .inv .1) ∙ all-stop bytes (l .i) (omega arith) isBlank (ne-eqb (getD bytes (l .i) 0) 32 (λ e. omega arith)))
+    let l = passed (c .before) in
+    sym (sym (l .loop .inv .1) ∙ all-stop (bytes l) (l .loop .i) (omega arith) isBlank (ne-eqb (getD (bytes l) (l .loop .i) 0) 32 (λ e. omega arith)))
 
 add-i : tie.Need-add-i Inv-loop μ-loop
 add-i c = omega arith
@@ -35,15 +42,13 @@ loop-less c = omega arith
 
 loop-again : tie.Need-loop-again Inv-loop μ-loop
 loop-again c =
-    let l = c .before .before .before .loop in
-    let bytes = c .before .before .before .before .args .bytes .now in
-    (omega arith, all-one bytes (l .i) (omega arith) isBlank (eq-eqb (getD bytes (l .i) 0) 32 (omega arith)) ∙ l .inv .1)
+    let l = passed (c .before) in
+    (omega arith, all-one (bytes l) (l .loop .i) (omega arith) isBlank (eq-eqb (getD (bytes l) (l .loop .i) 0) 32 (omega arith)) ∙ l .loop .inv .1)
 
 returns-2 : tie.Need-returns-2 Inv-loop μ-loop
 returns-2 c =
-    let l = c .before .loop in
-    let bytes = c .before .before .args .bytes .now in
-    sym (sym (l .inv .1) ∙ all-end bytes (l .i) (omega arith) isBlank)
+    let l = c .before in
+    sym (sym (l .loop .inv .1) ∙ all-end (bytes l) (l .loop .i) (omega arith) isBlank)
 
 pub all-blank-spec : {M : Type 1} → statement M
 all-blank-spec =

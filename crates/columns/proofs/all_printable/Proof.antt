@@ -1,5 +1,6 @@
 -- Every byte is printable: what was found of the bytes passed, and what is left, decide as the whole does.
-use Prim.Native.Nat.{_-_, _≤_}
+use Prim.Native.Nat.{ℕ, _-_, _≤_}
+use mathlib.Core.List.{List}
 use mathlib.Core.Path.{_≡_, refl, _∙_}
 use mathlib.Core.Bool.{_&&_}
 use native.Mathlib.Omega.{arith}
@@ -15,6 +16,10 @@ Inv-loop bytes fine₀ i₀ fine i = (i ≤ length bytes) × (fine && all isPrin
 abbrev μ-loop : tie.MeasureT-loop
 μ-loop bytes fine₀ i₀ fine i = length bytes - i
 
+-- at a place of the loop
+abbrev bytes : tie.At-loop Inv-loop μ-loop → List ℕ
+bytes c = c .before .args .bytes .now
+
 loop-holds : tie.Need-loop-holds Inv-loop μ-loop
 loop-holds c = (omega arith, refl)
 
@@ -29,15 +34,13 @@ loop-less c = omega arith
 
 loop-again : tie.Need-loop-again Inv-loop μ-loop
 loop-again c =
-    let l = c .before .before .loop in
-    let bytes = c .before .before .before .args .bytes .now in
-    (omega arith, printable-one bytes (l .i) (omega arith) (l .fine) ∙ l .inv .1)
+    let l = c .before .before in
+    (omega arith, printable-one (bytes l) (l .loop .i) (omega arith) (l .loop .fine) ∙ l .loop .inv .1)
 
 returns : tie.Need-returns Inv-loop μ-loop
 returns c =
-    let l = c .before .loop in
-    let bytes = c .before .before .args .bytes .now in
-    found-end (l .fine) (all isPrintable (drop (l .i) bytes)) (all-end bytes (l .i) (omega arith) isPrintable) ∙ l .inv .1
+    let l = c .before in
+    found-end (l .loop .fine) _ (all-end (bytes l) (l .loop .i) (omega arith) isPrintable) ∙ l .loop .inv .1
 
 pub all-printable-spec : {M : Type 1} → statement M
 all-printable-spec =

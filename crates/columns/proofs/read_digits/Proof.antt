@@ -29,7 +29,8 @@ part-digits-behind-end c = search needs
 digits-behind-requires : tie.Need-digits-behind-requires
 digits-behind-requires c κs =
     let x = c .before .before .args in
-    rw part-columns (room-none (length (columns (x .start) (x .width) (x .line .now))) (rw (columns-length (x .start) (x .width) (x .line .now) (omega arith)) (omega arith)))
+    let field = columns (x .start) (x .width) (x .line .now) in
+    rw part-columns (room-none (length field) (rw (columns-length (x .start) (x .width) (x .line .now) (omega arith)) (omega arith)))
 
 returns : tie.Need-returns
 returns c =

@@ -11,6 +11,9 @@ use Rattle.columns.proofs.Reading.{part-columns}
 use Rattle.columns.proofs.read_number.Statement.{statement}
 use Rattle.columns.proofs.read_number.Tie as tie
 
+abbrev start : tie.After-field → tie.Start
+start c = c .before .before
+
 sub-from : tie.Need-sub-from
 sub-from c = search needs
 
@@ -31,7 +34,7 @@ whole-number-requires c κs = search needs
 
 returns : tie.Need-returns
 returns c =
-    let x = c .before .before .before .before .args in
+    let x = start (c .before .before) .args in
     let field = columns (x .start) (x .width) (x .line .now) in
     let e : c .whole-number .result ≡ fieldOf (x .decimals) field =
     c .whole-number .ensures ∙ ap wholeOf (part-columns (x .start) (x .width) (x .line .now)) ∙ sym (field-whole (x .decimals) field (c .before .if1 .taken)) in
@@ -39,16 +42,18 @@ returns c =
 
 fixed-number-requires : tie.Need-fixed-number-requires
 fixed-number-requires c κs =
-    let x = c .before .before .before .args in
+    let x = start (c .before) .args in
     let n : length (columns (x .start) (x .width) (x .line .now)) ≡ x .width = columns-length (x .start) (x .width) (x .line .now) (omega arith) in
     rw (part-columns, n) (omega arith)
 
 returns-2 : tie.Need-returns-2
 returns-2 c =
-    let x = c .before .before .before .before .args in
+    let x = start (c .before .before) .args in
     let field = columns (x .start) (x .width) (x .line .now) in
     let e : c .fixed-number .result ≡ fieldOf (x .decimals) field =
-    c .fixed-number .ensures ∙ ap (fixedOf (x .decimals)) (part-columns (x .start) (x .width) (x .line .now)) ∙ sym (field-fixed (x .decimals) field (omega arith)) in
+    c .fixed-number .ensures
+    ∙ ap (fixedOf (x .decimals)) (part-columns (x .start) (x .width) (x .line .now))
+    ∙ sym (field-fixed (x .decimals) field (omega arith)) in
     (e, rw e (columns-number-bound (x .start) (x .width) (x .line .now) (omega arith) (x .decimals)))
 
 pub read-number-spec : {M : Type 1} → statement M

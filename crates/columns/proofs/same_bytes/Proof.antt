@@ -15,10 +15,15 @@ Inv-loop a b fine₀ i₀ fine i = (i ≤ length a) × (fine && same (drop i a) 
 abbrev μ-loop : tie.MeasureT-loop
 μ-loop a b fine₀ i₀ fine i = length a - i
 
+-- the places of the code, each from the next one below it
+abbrev start : tie.At-loop Inv-loop μ-loop → tie.Start Inv-loop μ-loop
+start c = c .before .before
+
+abbrev passed : tie.After-shared-slice-known2 Inv-loop μ-loop → tie.At-loop Inv-loop μ-loop
+passed c = c .before .before .before
+
 returns : tie.Need-returns Inv-loop μ-loop
-returns c =
-    let x = c .before .args in
-    sym (same-length (x .a .now) (x .b .now) (λ e. omega arith))
+returns c = sym (same-length _ _ (λ e. omega arith))
 
 loop-holds : tie.Need-loop-holds Inv-loop μ-loop
 loop-holds c = (omega arith, refl)
@@ -37,15 +42,15 @@ loop-less c = omega arith
 
 loop-again : tie.Need-loop-again Inv-loop μ-loop
 loop-again c =
-    let l = c .before .before .before .loop in
-    let x = c .before .before .before .before .before .args in
+    let l = passed c .loop in
+    let x = start (passed c) .args in
     (omega arith, same-one (x .a .now) (l .i) (omega arith) (x .b .now) (omega arith) (l .fine) ∙ l .inv .1)
 
 returns-2 : tie.Need-returns-2 Inv-loop μ-loop
 returns-2 c =
     let l = c .before .loop in
-    let x = c .before .before .before .args in
-    found-end (l .fine) (same (drop (l .i) (x .a .now)) (drop (l .i) (x .b .now))) (same-end (x .a .now) (l .i) (omega arith) (x .b .now) (omega arith)) ∙ l .inv .1
+    let x = start (c .before) .args in
+    found-end (l .fine) _ (same-end (x .a .now) (l .i) (omega arith) (x .b .now) (omega arith)) ∙ l .inv .1
 
 pub same-bytes-spec : {M : Type 1} → statement M
 same-bytes-spec =

@@ -8,8 +8,18 @@ use borrow.Author.Needs.{needs}
 use Rattle.edr_c.proofs.edr_check.Statement.{statement}
 use Rattle.edr_c.proofs.edr_check.Tie as tie
 
+-- the places of the code, each from the next one below it
+abbrev start : tie.After-slice-known → tie.Start
+start c = c .before .before
+
+abbrev totalled : tie.After-known-told → tie.After-check
+totalled c = c .before .before .before
+
+abbrev turned-down : tie.After-known-told2 → tie.After-check
+turned-down c = c .before .before .before
+
 returns : tie.Need-returns
-returns c = let a = c .before .before .before .args in short (a .file .now) (a .answer .now) (c .if1 .taken)
+returns c = let a = start (c .before) .args in short (a .file .now) (a .answer .now) (c .if1 .taken)
 
 check-requires : tie.Need-check-requires
 check-requires c κs = search needs
@@ -45,13 +55,19 @@ same-length : tie.Need-same-length
 same-length c = search needs
 
 returns-2 : tie.Need-returns-2
-returns-2 c = let a = c .before .before .before .before .before .before .before .args in accepted (a .file .now) (a .answer .now) _ (sym (c .before .before .before .check .ensures .0) ∙ c .before .quarter .given .1) (c .before .before .before .before .if1 .left)
+returns-2 c =
+    let k = totalled c in
+    let a = start (k .before .before) .args in
+    accepted (a .file .now) (a .answer .now) _ (sym (k .check .ensures .0) ∙ c .before .quarter .given .1) (k .before .if1 .left)
 
 same-length-2 : tie.Need-same-length-2
 same-length-2 c = search needs
 
 returns-3 : tie.Need-returns-3
-returns-3 c = let a = c .before .before .before .before .before .before .before .args in refused (a .file .now) (a .answer .now) _ (sym (c .before .before .before .check .ensures .0) ∙ c .before .refusal .given .1) (c .before .before .before .before .if1 .left)
+returns-3 c =
+    let k = turned-down c in
+    let a = start (k .before .before) .args in
+    refused (a .file .now) (a .answer .now) _ (sym (k .check .ensures .0) ∙ c .before .refusal .given .1) (k .before .if1 .left)
 
 pub edr-check-spec : {M : Type 1} → statement M
 edr-check-spec =

@@ -19,9 +19,12 @@ same-length c = search needs
 
 returns : tie.Need-returns
 returns c =
-    let p = c .before .before .print-answer .ensures in
-    let a = c .before .before .before .before .check .ensures .0 in
-    (p .0 ∙ ap (λ (x : Answer). length (printed x)) a, p .1, p .2 ∙ ap (λ (x : Answer). put 1 (printed x) (c .before .before .before .before .before .before .before .args .line .now)) a)
+    let p = c .before .before in
+    let k = p .before in
+    let l = k .before .before .before .before .args .line .now in
+    let told = p .print-answer .ensures in
+    let a = k .check .ensures .0 in
+    (told .0 ∙ ap (λ (x : Answer). length (printed x)) a, told .1, told .2 ∙ ap (λ (x : Answer). put 1 (printed x) l) a)
 
 pub answer-line-spec : {M : Type 1} → statement M
 answer-line-spec = tie.close (tie.spec check-requires print-answer-requires same-length returns)

@@ -16,7 +16,8 @@ enum-known-size c = search needs
 
 array-share-prefix-report : tie.Need-array-share-prefix-report
 array-share-prefix-report c =
-    let within = rw (c .before .size .given .1) at (c .before .before .before .before .read-input .ensures) in
+    let s = c .before in
+    let within = rw (s .size .given .1) at (s .before .before .before .read-input .ensures) in
     omega arith
 
 slice-aggregate-answer-line : tie.Need-slice-aggregate-answer-line

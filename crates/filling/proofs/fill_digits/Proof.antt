@@ -13,7 +13,9 @@ use Rattle.filling.proofs.fill_digits.Tie as tie
 
 abbrev Inv-loop : tie.InvT-loop
 Inv-loop field₀ value rest₀ left₀ field rest left =
-    (left ≤ length field₀) × ((length field ≡ length field₀) × ((digitsOf left rest ++ drop left field ≡ digitsOf (length field₀) value) × (rest / 10 ^ left ≡ value / 10 ^ length field₀)))
+    (left ≤ length field₀)
+    × ((length field ≡ length field₀)
+    × ((digitsOf left rest ++ drop left field ≡ digitsOf (length field₀) value) × (rest / 10 ^ left ≡ value / 10 ^ length field₀)))
 
 abbrev μ-loop : tie.MeasureT-loop
 μ-loop field₀ value rest₀ left₀ field rest left = left

@@ -10,6 +10,9 @@ use Rattle.filling.proofs.Fields.{whole-filled}
 use Rattle.filling.proofs.fill_whole.Statement.{statement}
 use Rattle.filling.proofs.fill_whole.Tie as tie
 
+abbrev start : tie.After-fill-leading → tie.Start
+start c = c .before .before .before
+
 sub-last : tie.Need-sub-last
 sub-last c = search needs
 
@@ -33,16 +36,16 @@ fill-leading-requires c κs = search needs
 
 returns : tie.Need-returns
 returns c =
-    let x = c .before .before .before .before .before .args in
+    let k = c .before .before in
+    let x = start k .args in
     let field = x .field .now in
     let n : min (length field - 1) (length field) ≡ length field - 1 = omega arith in
-    let e : c .before .before .fill-leading .last .0 ≡ leading (length field - 1) (x .value / 10) =
-    simp (length-take, length-set, n) at (c .before .before .fill-leading .ensures) in
+    let e : k .fill-leading .last .0 ≡ leading (length field - 1) (x .value / 10) = simp (length-take, length-set, n) at (k .fill-leading .ensures) in
     rw e (whole-filled field (x .value) (omega arith))
 
 same-length : tie.Need-same-length
 same-length c =
-    let x = c .before .before .before .before .before .args in
+    let x = start (c .before .before) .args in
     ap length (returns c) ∙ whole-length (length (x .field .now)) (x .value)
 
 pub fill-whole-spec : {M : Type 1} → statement M

@@ -16,6 +16,9 @@ Inv-loop line₀ start bytes from i₀ line i = (i ≤ length bytes) × ((length
 abbrev μ-loop : tie.MeasureT-loop
 μ-loop line₀ start bytes from i₀ line i = length bytes - i
 
+abbrev start : tie.At-loop Inv-loop μ-loop → tie.Start Inv-loop μ-loop
+start c = c .before
+
 sub-from : tie.Need-sub-from Inv-loop μ-loop
 sub-from c = omega arith
 
@@ -39,7 +42,7 @@ loop-less c = omega arith
 
 loop-again : tie.Need-loop-again Inv-loop μ-loop
 loop-again c =
-    let x = c .before .before .before .args in
+    let x = start (c .before .before) .args in
     let l = c .before .before .loop in
     let k = x .start - 1 in (
       omega arith,
@@ -56,7 +59,7 @@ same-length c = c .before .loop .inv .1 .0
 
 returns : tie.Need-returns Inv-loop μ-loop
 returns c =
-    let x = c .before .before .args in
+    let x = start (c .before) .args in
     let l = c .before .loop in
     let e : l .i ≡ length (x .bytes .now) = omega arith in
     l .inv .1 .1 ∙ ap (paste (x .line .now) (x .start - 1) (x .bytes .now)) e ∙ put-copied (x .start) (x .line .now) (x .bytes .now)

@@ -32,9 +32,10 @@ same-length c = search needs
 
 returns : tie.Need-returns
 returns c =
-    let x = c .before .before .before .before .before .args in
-    let e : c .before .before .fill-digits .last .0 ≡ digitsOf (x .width) (x .value) =
-    c .before .before .fill-digits .ensures .0 ∙ ap (λ (n : ℕ). digitsOf n (x .value)) (part-length (x .start) (x .width) (x .line .now) (omega arith)) in
+    let k = c .before .before in
+    let x = k .before .before .before .args in
+    let e : k .fill-digits .last .0 ≡ digitsOf (x .width) (x .value) =
+    k .fill-digits .ensures .0 ∙ ap (λ (n : ℕ). digitsOf n (x .value)) (part-length (x .start) (x .width) (x .line .now) (omega arith)) in
     rw e (put-part (x .start) (x .width) (x .line .now) (digitsOf (x .width) (x .value)) (digits-length (x .width) (x .value)))
 
 pub write-digits-spec : {M : Type 1} → statement M

@@ -10,6 +10,16 @@ use Rattle.filling.proofs.Fields.{put-part, part-length}
 use Rattle.filling.proofs.write_number.Statement.{statement}
 use Rattle.filling.proofs.write_number.Tie as tie
 
+-- the places of the code, each from the next one below it
+abbrev start : tie.After-slice-known → tie.Start
+start c = c .before
+
+abbrev whole : tie.After-fill-whole → tie.Then1
+whole c = c .before .before
+
+abbrev fixed : tie.After-fill-fixed → tie.Else1
+fixed c = c .before .before
+
 sub-from : tie.Need-sub-from
 sub-from c = search needs
 
@@ -27,18 +37,21 @@ part-fill-whole-end c = search needs
 
 fill-whole-requires : tie.Need-fill-whole-requires
 fill-whole-requires c κs =
-    let x = c .before .before .before .args in
-    rw (part-length (x .start) (x .width) (x .line .now) (omega arith)) (fewest-digit (x .decimals) (x .width) (c .before .before .before .pre .1))
+    let s = start (c .before .before) in
+    let x = s .args in
+    rw (part-length (x .start) (x .width) (x .line .now) (omega arith)) (fewest-digit (x .decimals) (x .width) (s .pre .1))
 
 same-length : tie.Need-same-length
 same-length c = search needs
 
 returns : tie.Need-returns
 returns c =
-    let x = c .before .before .before .before .before .before .args in
-    let e : c .before .before .fill-whole .last .0 ≡ wholeWritten (x .width) (x .value) =
-    c .before .before .fill-whole .ensures ∙ ap (λ (n : ℕ). wholeWritten n (x .value)) (part-length (x .start) (x .width) (x .line .now) (omega arith)) in
-    rw (e, written-whole (x .width) (x .decimals) (x .value) (c .before .before .before .before .if1 .taken)) (put-part (x .start) (x .width) (x .line .now) (wholeWritten (x .width) (x .value)) (whole-length (x .width) (x .value)))
+    let k = c .before .before in
+    let x = start (whole k .before) .args in
+    let e : k .fill-whole .last .0 ≡ wholeWritten (x .width) (x .value) =
+    k .fill-whole .ensures ∙ ap (λ (n : ℕ). wholeWritten n (x .value)) (part-length (x .start) (x .width) (x .line .now) (omega arith)) in
+    rw (e, written-whole (x .width) (x .decimals) (x .value) (whole k .if1 .taken))
+    (put-part (x .start) (x .width) (x .line .now) (wholeWritten (x .width) (x .value)) (whole-length (x .width) (x .value)))
 
 add-fill-fixed : tie.Need-add-fill-fixed
 add-fill-fixed c = search needs
@@ -54,20 +67,24 @@ part-fill-fixed-end c = search needs
 
 fill-fixed-requires : tie.Need-fill-fixed-requires
 fill-fixed-requires c κs =
-    let x = c .before .before .before .args in
-    rw (part-length (x .start) (x .width) (x .line .now) (omega arith)) (fewest-decimals (x .decimals) (x .width) (omega arith) (c .before .before .before .pre .1))
+    let s = start (c .before .before) in
+    let x = s .args in
+    rw (part-length (x .start) (x .width) (x .line .now) (omega arith)) (fewest-decimals (x .decimals) (x .width) (omega arith) (s .pre .1))
 
 same-length-2 : tie.Need-same-length-2
 same-length-2 c = search needs
 
 returns-2 : tie.Need-returns-2
 returns-2 c =
-    let x = c .before .before .before .before .before .before .args in
-    let w : x .decimals + 2 ≤ x .width = fewest-decimals (x .decimals) (x .width) (omega arith) (c .before .before .before .before .before .before .pre .1) in
-    let e : c .before .before .fill-fixed .last .0 ≡ fixedWritten (x .width) (x .decimals) (x .value) =
-    c .before .before .fill-fixed .ensures ∙ ap (λ (n : ℕ). fixedWritten n (x .decimals) (x .value)) (part-length (x .start) (x .width) (x .line .now) (omega arith)) in
+    let k = c .before .before in
+    let s = start (fixed k .before) in
+    let x = s .args in
+    let w : x .decimals + 2 ≤ x .width = fewest-decimals (x .decimals) (x .width) (omega arith) (s .pre .1) in
+    let bytes = fixedWritten (x .width) (x .decimals) (x .value) in
+    let e : k .fill-fixed .last .0 ≡ bytes =
+    k .fill-fixed .ensures ∙ ap (λ (n : ℕ). fixedWritten n (x .decimals) (x .value)) (part-length (x .start) (x .width) (x .line .now) (omega arith)) in
     rw (e, written-fixed (x .width) (x .decimals) (x .value) (omega arith))
-    (put-part (x .start) (x .width) (x .line .now) (fixedWritten (x .width) (x .decimals) (x .value)) (fixed-length (x .width) (x .decimals) (x .value) (omega arith)))
+    (put-part (x .start) (x .width) (x .line .now) bytes (fixed-length (x .width) (x .decimals) (x .value) (omega arith)))
 
 pub write-number-spec : {M : Type 1} → statement M
 write-number-spec =

@@ -1,70 +1,90 @@
--- `formulas::figure_passes` meets its contract: the verdict is the test's, and the test is exact.
--- Assumes nothing.
-use mathlib.Core.Path.{_≡_, _∙_, sym, ap}
+-- The verdict is the test's, and the test is exact.
+use mathlib.Core.Path.{_≡_, ap, sym, _∙_}
 use mathlib.Core.Bool.{Bool}
-use Rattle.formulas.specs.Hour.{ReadingsWithin}
-use Rattle.formulas.specs.Formulas.{passesTest, Judges}
+use Prim.Native.Nat.{ℕ, _≤_}
+use Rattle.formulas.proofs.Equations.{room-of, figure-most}
+use Rattle.exact.specs.Rounding.{span}
+use Rattle.formulas.specs.Hour.{unitOf, figureOf, HourWithin}
+use Rattle.formulas.specs.Formulas.{equationOf, equationMeets, passesTest, Judges}
 use Rattle.formulas.specs.FormulaLaws.{test-exact}
+use Rattle.formulas.specs.Reduced.{Reduces, formulaMeets}
+use Rattle.formulas.specs.ReducedLaws.{reduced-meets}
+use Rattle.formulas.specs.declared.Form.{Form}
+use Rattle.formulas.specs.declared.Formula.{Formula}
 use Rattle.formulas.specs.declared.hour.Hour.{Hour}
 use Rattle.formulas.specs.declared.hour.Quantity.{Quantity}
 use borrow.Author.Needs.{needs}
 use Rattle.formulas.proofs.figure_passes.Statement.{statement}
 use Rattle.formulas.proofs.figure_passes.Tie as tie
 
-judged : {q p : Quantity} {r : Bool} (h : Hour) → q ≡ p → ReadingsWithin (h .readings) → r ≡ passesTest p h → Judges q h r
-judged {q} h t w e =
-    let v = e ∙ ap (λ k. passesTest k h) (sym t) in
-    record { test = v; exact = rw v (test-exact q h w) }
+-- the places of the code, each from the next one below it
+abbrev start : tie.After-figure-of → tie.Start
+start c = c .before .before
+
+-- a figure as the definitions have it lies in its columns
+figure-fits : (c : tie.After-figure-of) → c .figure-of .result ≤ 999_999
+figure-fits c =
+    let s = start c in
+    rw (c .figure-of .ensures) (figure-most (s .args .q) (s .args .h .figures) (s .pre .figures))
+
+formed : (q : Quantity) (h : Hour) (f : Formula) (k : Form) (v : ℕ) → Reduces f (equationOf q (h .readings)) (unitOf q) → f .form ≡ k →
+    v ≡ figureOf q (h .figures) → formulaMeets k f v ≡ passesTest q h
+unfolding passesTest
+formed q h f k v r e g =
+    ap (λ (n : Form). formulaMeets n f v) (sym e ∙ r .form)
+    ∙ reduced-meets f (equationOf q (h .readings)) (unitOf q) r v
+    ∙ ap (λ (n : ℕ). equationMeets (equationOf q (h .readings)) (span (unitOf q) n)) g
+
+judges : (q : Quantity) (h : Hour) {verdict : Bool} → HourWithin h → verdict ≡ passesTest q h → Judges q h verdict
+judges q h w e = record { test = e; exact = rw e (test-exact q h (w .readings)) }
+
+formula-of-requires : tie.Need-formula-of-requires
+formula-of-requires c κs = search needs
+
+figure-of-requires : tie.Need-figure-of-requires
+figure-of-requires c κs = search needs
 
 enum-told : tie.Need-enum-told
 enum-told c = search needs
 
-heat-passes-requires : tie.Need-heat-passes-requires
-heat-passes-requires c κs = search needs
+product-meets-requires : tie.Need-product-meets-requires
+product-meets-requires c κs =
+    let g = c .before .before in
+    (room-of _ (g .before .formula-of .ensures .1) (c .enum-told .given .1), figure-fits g)
 
 enum-told-2 : tie.Need-enum-told-2
 enum-told-2 c = search needs
 
-so2-passes-requires : tie.Need-so2-passes-requires
-so2-passes-requires c κs = search needs
-
-enum-told-3 : tie.Need-enum-told-3
-enum-told-3 c = search needs
-
-nox-passes-requires : tie.Need-nox-passes-requires
-nox-passes-requires c κs = search needs
-
-enum-told-4 : tie.Need-enum-told-4
-enum-told-4 c = search needs
-
-co2-passes-requires : tie.Need-co2-passes-requires
-co2-passes-requires c κs = search needs
+quotient-meets-requires : tie.Need-quotient-meets-requires
+quotient-meets-requires c κs =
+    let g = c .before .before in
+    (room-of _ (g .before .formula-of .ensures .1) (c .enum-told2 .given .1), figure-fits g)
 
 returns : tie.Need-returns
-returns c = judged (c .before .before .before .args .h) (c .before .enum-told .given .1) (c .before .before .before .pre .readings) (c .heat-passes .ensures)
+returns c =
+    let g = c .before .before .before in
+    let s = start g in
+    judges (s .args .q) (s .args .h) (s .pre)
+    (c .product-meets .ensures
+    ∙ formed (s .args .q) (s .args .h) _ _ _ (g .before .formula-of .ensures .0) (c .before .enum-told .given .1) (g .figure-of .ensures))
 
 returns-2 : tie.Need-returns-2
-returns-2 c = judged (c .before .before .before .args .h) (c .before .enum-told2 .given .1) (c .before .before .before .pre .readings) (c .so2-passes .ensures)
-
-returns-3 : tie.Need-returns-3
-returns-3 c = judged (c .before .before .before .args .h) (c .before .enum-told3 .given .1) (c .before .before .before .pre .readings) (c .nox-passes .ensures)
-
-returns-4 : tie.Need-returns-4
-returns-4 c = judged (c .before .before .before .args .h) (c .before .enum-told4 .given .1) (c .before .before .before .pre .readings) (c .co2-passes .ensures)
+returns-2 c =
+    let g = c .before .before .before in
+    let s = start g in
+    judges (s .args .q) (s .args .h) (s .pre)
+    (c .quotient-meets .ensures
+    ∙ formed (s .args .q) (s .args .h) _ _ _ (g .before .formula-of .ensures .0) (c .before .enum-told2 .given .1) (g .figure-of .ensures))
 
 pub figure-passes-spec : {M : Type 1} → statement M
 figure-passes-spec =
     tie.close
     (tie.spec
+    formula-of-requires
+    figure-of-requires
     enum-told
-    heat-passes-requires
+    product-meets-requires
     enum-told-2
-    so2-passes-requires
-    enum-told-3
-    nox-passes-requires
-    enum-told-4
-    co2-passes-requires
+    quotient-meets-requires
     returns
-    returns-2
-    returns-3
-    returns-4)
+    returns-2)

@@ -22,10 +22,10 @@ enum-told-2 : tie.Need-enum-told-2
 enum-told-2 c = c .match .keys2
 
 returns : tie.Need-returns
-returns c = counted (c .before .before .before .args .s) (c .before .before .before .args .t) (c .before .before .row-of .ensures) (c .enum-told .given .1)
+returns c = let r = c .before .before in counted (r .before .args .s) (r .before .args .t) (r .row-of .ensures) (c .enum-told .given .1)
 
 returns-2 : tie.Need-returns-2
-returns-2 c = counted (c .before .before .before .args .s) (c .before .before .before .args .t) (c .before .before .row-of .ensures) (c .enum-told2 .given .1)
+returns-2 c = let r = c .before .before in counted (r .before .args .s) (r .before .args .t) (r .row-of .ensures) (c .enum-told2 .given .1)
 
 pub count-of-spec : {M : Type 1} → statement M
 count-of-spec = tie.close (tie.spec row-of-requires enum-told enum-told-2 returns returns-2)

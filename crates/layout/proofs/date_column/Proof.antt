@@ -1,6 +1,5 @@
 -- `layout::date_column` meets its contract.
 use mathlib.Core.Path.{ap}
-use borrow.Author.Needs.{needs}
 use Rattle.layout.specs.declared.Row.{Row}
 use Rattle.layout.proofs.date_column.Statement.{statement}
 use Rattle.layout.proofs.date_column.Tie as tie

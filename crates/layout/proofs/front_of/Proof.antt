@@ -1,6 +1,6 @@
 -- `layout::front_of` meets its contract: what stands in front of a type, by kind of run, times the counts.
 use mathlib.Core.Path.{_≡_, sym, ap, _∙_}
-use Prim.Native.Nat.{ℕ, _+_, _*_, _≤_}
+use Prim.Native.Nat.{ℕ}
 use borrow.Author.Needs.{needs}
 use Rattle.layout.specs.Layout.{frontOf}
 use Rattle.layout.specs.Lead.{leadOf, sizedBy, lead-front, Small, lead-small}

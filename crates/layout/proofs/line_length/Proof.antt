@@ -1,6 +1,5 @@
 -- `layout::line_length` meets its contract.
 use mathlib.Core.Path.{ap}
-use borrow.Author.Needs.{needs}
 use Rattle.layout.specs.LayoutLaws.{length-most}
 use Rattle.layout.specs.declared.Row.{Row}
 use Rattle.layout.proofs.line_length.Statement.{statement}

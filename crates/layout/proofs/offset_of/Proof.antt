@@ -10,11 +10,14 @@ use Rattle.layout.specs.declared.Row.{Row}
 use Rattle.layout.proofs.offset_of.Statement.{statement}
 use Rattle.layout.proofs.offset_of.Tie as tie
 
-long : (c : tie.After-row-of) → c .row-of .result .length ≡ lengthOf (c .before .before .args .t)
+abbrev start : tie.After-row-of → tie.Start
+start c = c .before .before
+
+long : (c : tie.After-row-of) → c .row-of .result .length ≡ lengthOf (start c .args .t)
 long c = ap (λ (r : Row). r .length) (c .row-of .ensures)
 
 short : (c : tie.After-row-of) → c .row-of .result .length + 1 ≤ 100
-short c = omega (arith, long c, length-most (c .before .before .args .t))
+short c = omega (arith, long c, length-most (start c .args .t))
 
 front-of-requires : tie.Need-front-of-requires
 front-of-requires c κs = search needs
@@ -26,13 +29,17 @@ add-result : tie.Need-add-result
 add-result c = omega (arith, short (c .before))
 
 mul-result : tie.Need-mul-result
-mul-result c = omega (arith, mul-le-mul (short (c .before)) (c .before .before .before .pre .1))
+mul-result c = omega (arith, mul-le-mul (short (c .before)) (start (c .before) .pre .1))
 
 add-result-2 : tie.Need-add-result-2
-add-result-2 c = omega (arith, mul-le-mul (short (c .before .before)) (c .before .before .before .before .pre .1))
+add-result-2 c =
+    let r = c .before .before in
+    omega (arith, mul-le-mul (short r) (start r .pre .1))
 
 returns : tie.Need-returns
-returns c = rw (c .before .before .before .front-of .ensures .0, long (c .before .before))
+returns c =
+    let r = c .before .before in
+    rw (r .before .front-of .ensures .0, long r)
 
 pub offset-of-spec : {M : Type 1} → statement M
 offset-of-spec =

@@ -1,11 +1,8 @@
 -- `layout::total_at` meets its contract, total by total.
-use mathlib.Core.Path.{_≡_, refl, sym, ap, _∙_}
-use Prim.Native.Nat.{ℕ, _≤_, _<_}
+use mathlib.Core.Path.{refl}
 use native.Mathlib.Omega.{arith}
-use Rattle.layout.specs.Layout.{valueCount, valueAt}
-use Rattle.layout.specs.declared.RecordType.{RecordType}
 use Rattle.layout.specs.declared.RecordType.the-variants.{QuarterTotals}
-use Rattle.layout.proofs.Values.{nth, last}
+use Rattle.layout.proofs.Values.{nth, last-value}
 use Rattle.layout.proofs.total_at.Statement.{statement}
 use Rattle.layout.proofs.total_at.Tie as tie
 
@@ -19,7 +16,7 @@ returns-3 : tie.Need-returns-3
 returns-3 c = nth QuarterTotals 2 refl (c .match .keys3)
 
 returns-4 : tie.Need-returns-4
-returns-4 c = last QuarterTotals 3 QuarterTotals (c .before .args .i) refl refl (c .before .pre) (omega arith)
+returns-4 c = last-value QuarterTotals 3 QuarterTotals (c .before .args .i) refl refl (c .before .pre) (omega arith)
 
 pub total-at-spec : {M : Type 1} → statement M
 total-at-spec = tie.close (tie.spec returns returns-2 returns-3 returns-4)

@@ -1,11 +1,11 @@
 -- `layout::value_at` meets its contract, type by type.
-use mathlib.Core.Path.{_≡_, refl, sym, ap, _∙_}
-use Prim.Native.Nat.{ℕ, _≤_, _<_}
+use mathlib.Core.Path.{refl, sym, ap, _∙_}
+use Prim.Native.Nat.{_<_}
 use native.Mathlib.Omega.{arith}
 use Rattle.layout.specs.Layout.{valueCount, valueAt}
-use Rattle.layout.specs.declared.RecordType.{RecordType}
-use Rattle.layout.specs.declared.RecordType.the-variants.{Facility, So2Concentration, NoxConcentration, Co2Concentration, VolumetricFlow, Operation, QuarterTotals, So2Mass, NoxRate, Co2Mass}
-use Rattle.layout.proofs.Values.{nth, last}
+use Rattle.layout.specs.declared.RecordType.the-variants.{Facility, So2Concentration, NoxConcentration, Co2Concentration}
+use Rattle.layout.specs.declared.RecordType.the-variants.{VolumetricFlow, Operation, So2Mass, NoxRate, Co2Mass}
+use Rattle.layout.proofs.Values.{nth, last-value}
 use Rattle.layout.proofs.value_at.Statement.{statement}
 use Rattle.layout.proofs.value_at.Tie as tie
 
@@ -46,45 +46,37 @@ returns : tie.Need-returns
 returns c = let h : c .before .before .args .i < valueCount Facility = rw (c .enum-told .given .1) at (c .before .before .pre) in absurd (omega arith)
 
 returns-2 : tie.Need-returns-2
-returns-2 c =
-    last So2Concentration 0 (c .before .before .args .t) (c .before .before .args .i) (c .enum-told2 .given .1) refl (c .before .before .pre) (omega arith)
+returns-2 c = last-value So2Concentration 0 _ _ (c .enum-told2 .given .1) refl (c .before .before .pre) (omega arith)
 
 returns-3 : tie.Need-returns-3
-returns-3 c =
-    last NoxConcentration 0 (c .before .before .args .t) (c .before .before .args .i) (c .enum-told3 .given .1) refl (c .before .before .pre) (omega arith)
+returns-3 c = last-value NoxConcentration 0 _ _ (c .enum-told3 .given .1) refl (c .before .before .pre) (omega arith)
 
 returns-4 : tie.Need-returns-4
-returns-4 c =
-    last Co2Concentration 0 (c .before .before .args .t) (c .before .before .args .i) (c .enum-told4 .given .1) refl (c .before .before .pre) (omega arith)
+returns-4 c = last-value Co2Concentration 0 _ _ (c .enum-told4 .given .1) refl (c .before .before .pre) (omega arith)
 
 returns-5 : tie.Need-returns-5
-returns-5 c =
-    last VolumetricFlow 0 (c .before .before .args .t) (c .before .before .args .i) (c .enum-told5 .given .1) refl (c .before .before .pre) (omega arith)
+returns-5 c = last-value VolumetricFlow 0 _ _ (c .enum-told5 .given .1) refl (c .before .before .pre) (omega arith)
 
 returns-6 : tie.Need-returns-6
 returns-6 c = nth Operation 0 (c .before .enum-told6 .given .1) (c .match2 .keys1)
 
 returns-7 : tie.Need-returns-7
-returns-7 c =
-    last Operation 1 (c .before .before .before .args .t) (c .before .before .before .args .i) (c .before .enum-told6 .given .1) refl
-    (c .before .before .before .pre) (omega arith)
+returns-7 c = let k = c .before in last-value Operation 1 _ _ (k .enum-told6 .given .1) refl (k .before .before .pre) (omega arith)
 
 returns-8 : tie.Need-returns-8
-returns-8 c = c .total-at .ensures ∙ ap (λ t. valueAt t (c .before .before .before .args .i)) (sym (c .before .enum-told7 .given .1))
+returns-8 c = let k = c .before in c .total-at .ensures ∙ ap (λ t. valueAt t (k .before .before .args .i)) (sym (k .enum-told7 .given .1))
 
 returns-9 : tie.Need-returns-9
-returns-9 c = last So2Mass 0 (c .before .before .args .t) (c .before .before .args .i) (c .enum-told8 .given .1) refl (c .before .before .pre) (omega arith)
+returns-9 c = last-value So2Mass 0 _ _ (c .enum-told8 .given .1) refl (c .before .before .pre) (omega arith)
 
 returns-10 : tie.Need-returns-10
 returns-10 c = nth NoxRate 0 (c .before .enum-told9 .given .1) (c .match3 .keys1)
 
 returns-11 : tie.Need-returns-11
-returns-11 c =
-    last NoxRate 1 (c .before .before .before .args .t) (c .before .before .before .args .i) (c .before .enum-told9 .given .1) refl
-    (c .before .before .before .pre) (omega arith)
+returns-11 c = let k = c .before in last-value NoxRate 1 _ _ (k .enum-told9 .given .1) refl (k .before .before .pre) (omega arith)
 
 returns-12 : tie.Need-returns-12
-returns-12 c = last Co2Mass 0 (c .before .before .args .t) (c .before .before .args .i) (c .enum-told10 .given .1) refl (c .before .before .pre) (omega arith)
+returns-12 c = last-value Co2Mass 0 _ _ (c .enum-told10 .given .1) refl (c .before .before .pre) (omega arith)
 
 pub value-at-spec : {M : Type 1} → statement M
 value-at-spec =

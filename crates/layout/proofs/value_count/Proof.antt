@@ -1,6 +1,5 @@
 -- `layout::value_count` meets its contract.
 use mathlib.Core.Path.{ap}
-use borrow.Author.Needs.{needs}
 use Rattle.layout.specs.declared.Row.{Row}
 use Rattle.layout.proofs.value_count.Statement.{statement}
 use Rattle.layout.proofs.value_count.Tie as tie

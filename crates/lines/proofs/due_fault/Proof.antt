@@ -4,7 +4,6 @@ use mathlib.Core.List.{List}
 use Prim.Native.Nat.{ℕ}
 use native.Mathlib.Omega.{arith}
 use lib.ListN.{length, take}
-use lib.Seq.{length-take-le}
 use borrow.Author.Needs.{needs}
 use Rattle.layout.specs.Layout.{lengthOf}
 use Rattle.layout.specs.declared.RecordType.{RecordType}
@@ -12,23 +11,33 @@ use Rattle.lines.specs.Lines.{firstLine}
 use Rattle.lines.specs.LineFaults.{shapeFault, commonFault, dueFault}
 use Rattle.lines.specs.FaultLaws.{common-shape}
 use Rattle.lines.proofs.Chains.{first-of, second-of, third-of}
-use Rattle.lines.proofs.Shapes.{line-known, line-length, line-room}
+use Rattle.lines.proofs.Shapes.{line-known, line-length}
 use Rattle.lines.proofs.due_fault.Statement.{statement}
 use Rattle.lines.proofs.due_fault.Tie as tie
+
+-- the places of the code, each from the next one below it
+abbrev start : tie.Else1 → tie.Start
+start c = c .before .before .before .before .before
+
+abbrev shaped : tie.After-line-length → tie.Else1
+shaped c = c .before
+
+abbrev sized : tie.After-date-fault → tie.After-line-length
+sized c = c .before .before
 
 -- the line, once it has no fault that every line is tried for
 module _ (c : tie.After-line-length) where
   abbrev t : RecordType
-  t = c .before .before .before .before .before .before .args .t
+  t = start (shaped c) .args .t
 
   abbrev rest : List ℕ
-  rest = c .before .before .before .before .before .before .args .rest .now
+  rest = start (shaped c) .args .rest .now
 
   abbrev line : List ℕ
   line = take (c .line-length .result) rest
 
-  common : commonFault (c .before .before .before .before .before .before .args .facility .now) t (firstLine rest) ≡ 0
-  common = sym (c .before .before .common-fault .ensures) ∙ c .before .if1 .left
+  common : commonFault (start (shaped c) .args .facility .now) t (firstLine rest) ≡ 0
+  common = sym (shaped c .before .common-fault .ensures) ∙ shaped c .if1 .left
 
   fine : shapeFault t (firstLine rest) ≡ 0
   fine = common-shape _ t (firstLine rest) common
@@ -50,9 +59,7 @@ line-length-requires : tie.Need-line-length-requires
 line-length-requires c κs = search needs
 
 slice-aggregate-line : tie.Need-slice-aggregate-line
-slice-aggregate-line c =
-    let k = c .before in
-    sym (length-take-le (k .line-length .result) (rest k) (line-room (t k) (rest k) (fine k) (k .line-length .result) (k .line-length .ensures .0)))
+slice-aggregate-line c = c .before .line-length .ensures .0 ∙ sym (long (c .before))
 
 date-fault-requires : tie.Need-date-fault-requires
 date-fault-requires c κs = long (c .before)
@@ -60,18 +67,19 @@ date-fault-requires c κs = long (c .before)
 returns-2 : tie.Need-returns-2
 unfolding dueFault
 returns-2 c =
-    let k = c .before .before .before in
-    second-of _ _ _ _ (common k) (rw (← known k) at (c .before .date-fault .ensures)) (λ e. omega arith)
+    let d = c .before in
+    second-of _ _ _ _ (common (sized d)) (rw (← known (sized d)) at (d .date-fault .ensures)) (λ e. omega arith)
 
 values-fault-requires : tie.Need-values-fault-requires
-values-fault-requires c κs = long (c .before .before .before)
+values-fault-requires c κs = long (sized (c .before))
 
 returns-3 : tie.Need-returns-3
 unfolding dueFault
 returns-3 c =
-    let k = c .before .before .before .before in
-    let d = rw (← known k) at (c .before .before .date-fault .ensures) in
-    third-of _ _ _ _ (common k) (sym d ∙ c .before .if2 .left) (rw (← known k) at (c .values-fault .ensures))
+    let d = c .before .before in
+    let k = sized d in
+    let e = rw (← known k) at (d .date-fault .ensures) in
+    third-of _ _ _ _ (common k) (sym e ∙ c .before .if2 .left) (rw (← known k) at (c .values-fault .ensures))
 
 pub due-fault-spec : {M : Type 1} → statement M
 due-fault-spec =

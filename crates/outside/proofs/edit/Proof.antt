@@ -17,6 +17,16 @@ Inv-loop edits report₀ i₀ report i = (i ≤ length edits / 5) × (length rep
 abbrev μ-loop : tie.MeasureT-loop
 μ-loop edits report₀ i₀ report i = length edits / 5 - i
 
+-- the places of the code, each from the next one below it
+abbrev start : tie.At-loop Inv-loop μ-loop → tie.Start Inv-loop μ-loop
+start c = c .before .before .before
+
+abbrev passed : tie.After-number-at Inv-loop μ-loop → tie.At-loop Inv-loop μ-loop
+passed c = c .before .before
+
+abbrev found : tie.After-store Inv-loop μ-loop → tie.After-number-at Inv-loop μ-loop
+found c = c .before .before .before
+
 loop-holds : tie.Need-loop-holds Inv-loop μ-loop
 unfolding editedBy
 loop-holds c = (omega arith, refl, refl)
@@ -47,15 +57,17 @@ loop-less c = search needs
 
 loop-again : tie.Need-loop-again Inv-loop μ-loop
 loop-again c =
-    let x = c .before .before .before .before .before .before .before .before .before .before .args in
-    let l = c .before .before .before .before .before .before .before .loop in
+    let k = c .before .before in
+    let n = found k in
+    let x = start (passed n) .args in
+    let l = passed n .loop in
     let edits = x .edits .now in
     let byte = getD edits (5 * l .i + 4) 0 in
     let place = numberAt edits (5 * l .i) in (
       omega arith,
       omega arith,
-      c .before .before .store .ensures
-          ∙ ap (λ (p : ℕ). set (l .report) p byte) (c .before .before .before .before .before .number-at .ensures .0)
+      k .store .ensures
+          ∙ ap (λ (p : ℕ). set (l .report) p byte) (n .number-at .ensures .0)
           ∙ ap (λ (bytes : List ℕ). set bytes place byte) (l .inv .2)
           ∙ sym (edited-more edits (x .report .now) (l .i)),
     )
@@ -65,7 +77,7 @@ same-length c = search needs
 
 returns : tie.Need-returns Inv-loop μ-loop
 returns c =
-    let x = c .before .before .before .before .args in
+    let x = start (c .before) .args in
     let l = c .before .loop in
     let e : l .i ≡ length (x .edits .now) / 5 = omega arith in
     l .inv .2 ∙ ap (λ (n : ℕ). editedBy n (x .edits .now) (x .report .now)) e

@@ -5,11 +5,11 @@ use borrow.Author.Needs.{needs}
 use Rattle.outside.proofs.print_check.Statement.{statement}
 use Rattle.outside.proofs.print_check.Tie as tie
 
-check-requires : tie.Need-check-requires
-check-requires c κs = search needs
-
 slice-aggregate-print-answer : tie.Need-slice-aggregate-print-answer
 slice-aggregate-print-answer c = search needs
+
+check-requires : tie.Need-check-requires
+check-requires c κs = search needs
 
 print-answer-requires : tie.Need-print-answer-requires
 print-answer-requires c κs = search needs
@@ -30,8 +30,8 @@ pub print-check-spec : {M : Type 1} → statement M
 print-check-spec =
     tie.close
     (tie.spec
-    check-requires
     slice-aggregate-print-answer
+    check-requires
     print-answer-requires
     array-share-prefix-line
     slice-aggregate-write-all

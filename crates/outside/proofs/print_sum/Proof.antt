@@ -5,11 +5,11 @@ use borrow.Author.Needs.{needs}
 use Rattle.outside.proofs.print_sum.Statement.{statement}
 use Rattle.outside.proofs.print_sum.Tie as tie
 
-adler-requires : tie.Need-adler-requires
-adler-requires c κs = search needs
-
 slice-aggregate-print-line : tie.Need-slice-aggregate-print-line
 slice-aggregate-print-line c = search needs
+
+adler-requires : tie.Need-adler-requires
+adler-requires c κs = search needs
 
 slice-aggregate-print-line-2 : tie.Need-slice-aggregate-print-line-2
 slice-aggregate-print-line-2 c = search needs
@@ -33,8 +33,8 @@ pub print-sum-spec : {M : Type 1} → statement M
 print-sum-spec =
     tie.close
     (tie.spec
-    adler-requires
     slice-aggregate-print-line
+    adler-requires
     slice-aggregate-print-line-2
     print-line-requires
     array-share-prefix-line

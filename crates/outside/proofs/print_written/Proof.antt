@@ -16,7 +16,8 @@ print-sum-requires c κs = search needs
 
 slice-aggregate-print-check : tie.Need-slice-aggregate-print-check
 slice-aggregate-print-check c =
-    let within = rw (c .before .before .before .before .written .given .1) at (c .before .before .before .before .before .before .before .pre) in
+    let k = c .before .before .before .before in
+    let within = rw (k .written .given .1) at (k .before .before .before .pre) in
     simp length-take (omega arith)
 
 print-check-requires : tie.Need-print-check-requires

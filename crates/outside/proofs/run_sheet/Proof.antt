@@ -4,6 +4,9 @@ use borrow.Author.Needs.{needs}
 use Rattle.outside.proofs.run_sheet.Statement.{statement}
 use Rattle.outside.proofs.run_sheet.Tie as tie
 
+abbrev written : tie.After-print-written → tie.After-write-sheet
+written c = c .before .before .before .before
+
 sub-read-words : tie.Need-sub-read-words
 sub-read-words c = search needs
 
@@ -30,7 +33,7 @@ same-length-2 c = search needs
 
 returns : tie.Need-returns
 returns c =
-    let w = c .before .before .before .before .write-sheet in
+    let w = written c .write-sheet in
     λ long h k. rw (c .print-written .ensures) (last-fits (w .result) _ _ long (w .ensures) k h)
 
 pub run-sheet-spec : {M : Type 1} → statement M

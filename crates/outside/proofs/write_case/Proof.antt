@@ -5,6 +5,16 @@ use borrow.Author.Needs.{needs}
 use Rattle.outside.proofs.write_case.Statement.{statement}
 use Rattle.outside.proofs.write_case.Tie as tie
 
+-- the places of the code, each from the next one below it
+abbrev start : tie.After-sheet-room → tie.Start
+start c = c .before .before .before .before .before
+
+abbrev room : tie.After-run-sheet → tie.After-sheet-room
+room c = c .before .before .before .before .before .before
+
+abbrev run : tie.After-slice-known2 → tie.After-run-sheet
+run c = c .before .before .before
+
 number-at-requires : tie.Need-number-at-requires
 number-at-requires c κs = search needs
 
@@ -49,8 +59,8 @@ same-length c = search needs
 
 returns-4 : tie.Need-returns-4
 returns-4 c =
-    let x = c .before .before .before .before .before .before .before .before .before .before .before .before .before .before .args in
-    let r = c .before .before .before .run-sheet .ensures (length (x .buffer .now)) (omega arith) (simp length-take (omega arith)) in
+    let k = run c in
+    let r = k .run-sheet .ensures (length (start (room k) .args .buffer .now)) (omega arith) (simp length-take (omega arith)) in
     record { some = omega arith; most = omega arith; within = r }
 
 pub write-case-spec : {M : Type 1} → statement M

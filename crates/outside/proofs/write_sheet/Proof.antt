@@ -5,8 +5,8 @@ use borrow.Author.Needs.{needs}
 use Rattle.outside.proofs.write_sheet.Statement.{statement}
 use Rattle.outside.proofs.write_sheet.Tie as tie
 
-fill-requires : tie.Need-fill-requires
-fill-requires c κs = search needs
+fill-with-requires : tie.Need-fill-with-requires
+fill-with-requires c κs = search needs
 
 byte-at-requires : tie.Need-byte-at-requires
 byte-at-requires c κs = search needs
@@ -47,7 +47,7 @@ pub write-sheet-spec : {M : Type 1} → statement M
 write-sheet-spec =
     tie.close
     (tie.spec
-    fill-requires
+    fill-with-requires
     byte-at-requires
     byte-at-requires-2
     byte-at-requires-3

@@ -3,7 +3,7 @@ use Prim.Native.Nat.{suc, _+_, _-_, _≤_}
 use mathlib.Core.Path.{_≡_}
 use native.Mathlib.Omega.{arith}
 use Rattle.printing.specs.Printed.{digitCountIn, digitCount}
-use Rattle.printing.specs.PrintedLaws.{count-one, count-more, count-most}
+use Rattle.printing.specs.PrintedLaws.{count-one, count-more, digit-count-most}
 use Rattle.printing.proofs.digit_count.Statement.{statement}
 use Rattle.printing.proofs.digit_count.Tie as tie
 
@@ -40,7 +40,7 @@ returns c =
     let v = c .before .before .args .value in
     let l = c .before .loop in
     let e : digitCountIn (v + 1 - l .count) (l .rest) ≡ 1 = count-one (v + 1 - l .count) (l .rest) (omega arith) in
-    (omega arith, omega (arith, count-most 19 v v (omega arith)))
+    (omega arith, omega (arith, digit-count-most 19 v v (omega arith)))
 
 pub digit-count-spec : {M : Type 1} → statement M
 digit-count-spec =

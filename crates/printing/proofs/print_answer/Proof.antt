@@ -3,6 +3,13 @@ use borrow.Author.Needs.{needs}
 use Rattle.printing.proofs.print_answer.Statement.{statement}
 use Rattle.printing.proofs.print_answer.Tie as tie
 
+-- where the answer is known
+abbrev accepted : tie.After-print-line → tie.After-answer
+accepted c = c .before .before .before .before .before
+
+abbrev refused : tie.After-print-line2 → tie.After-answer2
+refused c = c .before .before .before .before .before
+
 enum-known-answer : tie.Need-enum-known-answer
 enum-known-answer c = search needs
 
@@ -31,13 +38,13 @@ same-length : tie.Need-same-length
 same-length c = search needs
 
 returns : tie.Need-returns
-returns c = rw (c .before .before .before .before .before .before .before .answer .given .1) (c .before .before .print-line .ensures)
+returns c = let k = c .before .before in rw (accepted k .answer .given .1) (k .print-line .ensures)
 
 same-length-2 : tie.Need-same-length-2
 same-length-2 c = search needs
 
 returns-2 : tie.Need-returns-2
-returns-2 c = rw (c .before .before .before .before .before .before .before .answer2 .given .1) (c .before .before .print-line2 .ensures)
+returns-2 c = let k = c .before .before in rw (refused k .answer2 .given .1) (k .print-line2 .ensures)
 
 pub print-answer-spec : {M : Type 1} → statement M
 print-answer-spec =

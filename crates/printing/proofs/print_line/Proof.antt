@@ -12,7 +12,7 @@ use Rattle.printing.proofs.print_line.Statement.{statement}
 use Rattle.printing.proofs.print_line.Tie as tie
 
 abbrev Inv-loop : tie.InvT-loop
-Inv-loop word numbers line₀ column₀ i₀ t6 line column i =
+Inv-loop line₀ word numbers column₀ i₀ t6 line column i =
     (i ≤ length numbers)
     × (1 ≤ column)
     × (column ≤ column₀ + 21 * i)
@@ -21,7 +21,20 @@ Inv-loop word numbers line₀ column₀ i₀ t6 line column i =
     × (put column (leftFrom i numbers) line ≡ put column₀ (leftFrom 0 numbers) line₀)
 
 abbrev μ-loop : tie.MeasureT-loop
-μ-loop word numbers line₀ column₀ i₀ t6 line column i = length numbers - i
+μ-loop line₀ word numbers column₀ i₀ t6 line column i = length numbers - i
+
+-- the places of the code, each from the next one below it
+abbrev start : tie.After-write-bytes Inv-loop μ-loop → tie.Start Inv-loop μ-loop
+start c = c .before .before .before .before .before
+
+abbrev worded : tie.At-loop Inv-loop μ-loop → tie.After-write-bytes Inv-loop μ-loop
+worded c = c .before .before .before
+
+abbrev passed : tie.After-print-number Inv-loop μ-loop → tie.At-loop Inv-loop μ-loop
+passed c = c .before .before .before .before
+
+abbrev ended : tie.After-write-bytes2 Inv-loop μ-loop → tie.At-loop Inv-loop μ-loop
+ended c = c .before .before .before .before
 
 write-bytes-requires : tie.Need-write-bytes-requires Inv-loop μ-loop
 write-bytes-requires c κs = omega arith
@@ -49,18 +62,20 @@ loop-less c = omega arith
 
 loop-again : tie.Need-loop-again Inv-loop μ-loop
 loop-again c =
-    let x = c .before .before .before .before .before .before .before .before .before .before .before .before .before .before .args in
-    let l = c .before .before .before .before .before .before .loop in
-    let p = c .before .before .print-number in
-    let v = getD (x .numbers .now) (l .i) 0 in
-    let e : p .result ≡ l .column + length (spaced v) = p .ensures .0 in
-    let f : p .last .0 ≡ put (l .column) (spaced v) (l .line) = p .ensures .2 in (
+    let k = c .before .before in
+    let numbers = start (worded (passed k)) .args .numbers .now in
+    let l = passed k .loop in
+    let p = k .print-number in
+    let v = getD numbers (l .i) 0 in (
       omega arith,
       omega arith,
       omega arith,
       omega arith,
-      omega (arith, left-length (x .numbers .now) (l .i) (omega arith)),
-      rw (e, f) (left-put (x .numbers .now) (l .i) (l .column) (l .line) (omega arith) (omega arith) (omega arith) ∙ l .inv .5),
+      omega (arith, left-length numbers (l .i) (omega arith)),
+      ap (λ (n : ℕ). put n (leftFrom (l .i + 1) numbers) (p .last .0)) (p .ensures .0)
+          ∙ ap (put (l .column + length (spaced v)) (leftFrom (l .i + 1) numbers)) (p .ensures .2)
+          ∙ left-put numbers (l .i) (l .column) (l .line) (omega arith) (omega arith) (omega arith)
+          ∙ l .inv .5,
     )
 
 slice-aggregate-write-bytes : tie.Need-slice-aggregate-write-bytes Inv-loop μ-loop
@@ -74,15 +89,17 @@ same-length c = search needs
 
 returns : tie.Need-returns Inv-loop μ-loop
 returns c =
-    let x = c .before .before .before .before .before .before .before .before .before .before .before .before .before .before .args in
-    let l = c .before .before .before .before .before .before .loop in
+    let k = c .before .before in
+    let w = worded (ended k) in
+    let x = start w .args in
+    let l = ended k .loop in
     let none : leftFrom (l .i) (x .numbers .now) ≡ 10 ∷ [] = left-none (x .numbers .now) (l .i) (omega arith) in (
       omega (arith, ap length none, line-length (x .word .now) (x .numbers .now)),
       omega arith,
-      c .before .before .write-bytes2 .ensures
+      k .write-bytes2 .ensures
           ∙ ap (λ (bs : List ℕ). put (l .column) bs (l .line)) (sym none)
           ∙ l .inv .5
-          ∙ ap (put (1 + length (x .word .now)) (leftFrom 0 (x .numbers .now))) (c .before .before .before .before .before .before .before .before .before .write-bytes .ensures)
+          ∙ ap (put (1 + length (x .word .now)) (leftFrom 0 (x .numbers .now))) (w .write-bytes .ensures)
           ∙ line-put (x .word .now) (x .numbers .now) (x .line .now) (omega arith),
     )
 

@@ -12,6 +12,16 @@ use Rattle.printing.specs.Printed.{digitCount, decimalOf}
 use Rattle.printing.proofs.print_number.Statement.{statement}
 use Rattle.printing.proofs.print_number.Tie as tie
 
+-- the places of the code, each from the next one below it
+abbrev start : tie.After-digit-count → tie.Start
+start c = c .before .before
+
+abbrev counted : tie.After-write-bytes → tie.After-digit-count
+counted c = c .before .before .before
+
+abbrev space : tie.After-write-digits → tie.After-write-bytes
+space c = c .before .before .before .before
+
 digit-count-requires : tie.Need-digit-count-requires
 digit-count-requires c κs = search needs
 
@@ -38,16 +48,18 @@ same-length c = search needs
 
 returns : tie.Need-returns
 returns c =
-    let x = c .before .before .before .before .before .before .before .before .before .before .before .args in
-    let n = c .before .before .before .before .before .before .before .before .before .digit-count in
+    let k = c .before .before in
+    let s = space k in
+    let x = start (counted s) .args in
     let column = x .column in
     let value = x .value in
     let spaceOnly = put column (32 ∷ []) (x .line .now) in
-    let e : c .before .before .write-digits .last .0 ≡ put (column + 1) (decimalOf value) spaceOnly =
-    c .before .before .write-digits .ensures
-    ∙ ap (λ (k : ℕ). put (column + 1) (digitsOf k value) (c .before .before .before .before .before .before .write-bytes .last .0)) (n .ensures .0)
-    ∙ ap (put (column + 1) (decimalOf value)) (c .before .before .before .before .before .before .write-bytes .ensures) in
-    (omega (arith, digits-length (digitCount value) value), omega arith, e ∙ put-beside column (32 ∷ []) (x .line .now) (omega arith) (decimalOf value) (omega arith))
+    let e : k .write-digits .last .0 ≡ put (column + 1) (decimalOf value) spaceOnly =
+    k .write-digits .ensures
+    ∙ ap (λ (n : ℕ). put (column + 1) (digitsOf n value) (s .write-bytes .last .0)) (counted s .digit-count .ensures .0)
+    ∙ ap (put (column + 1) (decimalOf value)) (s .write-bytes .ensures) in
+    let b = put-beside column (32 ∷ []) (x .line .now) (omega arith) (decimalOf value) (omega arith) in
+    (omega (arith, digits-length (digitCount value) value), omega arith, e ∙ b)
 
 pub print-number-spec : {M : Type 1} → statement M
 print-number-spec =

@@ -36,7 +36,18 @@ value-in-requires-10 c κs = search needs
 
 returns : tie.Need-returns
 unfolding hourAt
-returns c = rw (c .before .before .before .before .before .before .before .before .before .value-in .ensures, c .before .before .before .before .before .before .before .before .value-in2 .ensures, c .before .before .before .before .before .before .before .value-in3 .ensures, c .before .before .before .before .before .before .value-in4 .ensures, c .before .before .before .before .before .value-in5 .ensures, c .before .before .before .before .value-in6 .ensures, c .before .before .before .value-in7 .ensures, c .before .before .value-in8 .ensures, c .before .value-in9 .ensures, c .value-in10 .ensures)
+returns c =
+    let nox-rate = c .before in
+    let so2-mass = nox-rate .before in
+    let heat = so2-mass .before in
+    let fc = heat .before in
+    let flow = fc .before in
+    let co2 = flow .before in
+    let nox = co2 .before in
+    let so2 = nox .before in
+    let time = so2 .before in
+    rw (time .value-in .ensures, so2 .value-in2 .ensures, nox .value-in3 .ensures, co2 .value-in4 .ensures, flow .value-in5 .ensures)
+    (rw (fc .value-in6 .ensures, heat .value-in7 .ensures, so2-mass .value-in8 .ensures, nox-rate .value-in9 .ensures, c .value-in10 .ensures))
 
 pub hour-spec : {M : Type 1} → statement M
 hour-spec =

@@ -2,6 +2,7 @@
 use Prim.Native.Nat.{_+_, _≤_}
 use native.Mathlib.Omega.{arith}
 use lib.ListN.{length}
+use Rattle.calendar.specs.Calendar.{mostHours}
 use Rattle.layout.specs.Layout.{lengthOf, offsetOf}
 use Rattle.layout.specs.ValueLaws.{ValueInside, value-inside}
 use Rattle.reading.specs.RecordLaws.{room-for, value-at}
@@ -9,40 +10,46 @@ use borrow.Author.Needs.{needs}
 use Rattle.recorded.proofs.value_in.Statement.{statement}
 use Rattle.recorded.proofs.value_in.Tie as tie
 
-fits : (c : tie.Start) → (offsetOf (c .args .s) (c .args .t) (c .args .k) + lengthOf (c .args .t) ≤ length (c .args .file .now)) × (c .args .k ≤ 2208)
+-- the places of the code, each from the next one below it
+abbrev start : tie.After-value-at → tie.Start
+start c = c .before .before
+
+abbrev column : tie.After-offset-of → tie.After-value-at
+column c = c .before
+
+fits : (c : tie.Start) → (offsetOf (c .args .s) (c .args .t) (c .args .k) + lengthOf (c .args .t) ≤ length (c .args .file .now)) × (c .args .k ≤ mostHours)
 fits c = room-for (c .args .file .now) (c .args .s) (c .pre .0) (c .args .t) (c .args .k) (c .pre .1)
 
-inside : (c : tie.After-struct-known) → ValueInside (c .before .before .before .before .args .t) (c .before .before .value-at .result)
-inside c =
-    rw (c .before .before .value-at .ensures) (value-inside (c .before .before .before .before .args .t) (c .before .before .before .before .args .i)
-    (omega arith))
+inside : (c : tie.After-value-at) → ValueInside (start c .args .t) (c .value-at .result)
+inside c = rw (← c .value-at .ensures) at (value-inside (start c .args .t) (start c .args .i) (omega arith))
 
-room : (c : tie.After-struct-known) →
-    c .before .offset-of .result + lengthOf (c .before .before .before .before .args .t) ≤ length (c .before .before .before .before .args .file .now)
-room c = rw (c .before .offset-of .ensures) (fits (c .before .before .before .before) .0)
+room : (c : tie.After-offset-of) →
+    let x = start (column c) .args in c .offset-of .result + lengthOf (x .t) ≤ length (x .file .now)
+room c = omega (arith, c .offset-of .ensures, fits (start (column c)) .0)
 
 value-at-requires : tie.Need-value-at-requires
 value-at-requires c κs = search needs
 
 offset-of-requires : tie.Need-offset-of-requires
-offset-of-requires c κs = (c .before .before .pre .0 .held, fits (c .before .before) .1)
+offset-of-requires c κs = (start c .pre .0 .held, fits (start c) .1)
 
 add-start : tie.Need-add-start
 add-start c =
-    let p = inside c in
-    omega (arith, room c)
+    let p = inside (column (c .before)) in
+    omega (arith, room (c .before))
 
 read-number-requires : tie.Need-read-number-requires
 read-number-requires c κs =
-    let p = inside c in
-    omega (arith, room c)
+    let p = inside (column (c .before)) in
+    omega (arith, room (c .before))
 
 number-of-requires : tie.Need-number-of-requires
 number-of-requires c κs = search needs
 
 returns : tie.Need-returns
 returns c =
-    let s = c .before .before .before .before .before .before in
+    let o = c .before .before .before in
+    let s = start (column o) in
     cc (value-at (s .args .file .now) (s .args .s) (s .pre .0) (s .args .t) (s .args .k) (s .pre .1) (s .args .i) (s .pre .2))
 
 pub value-in-spec : {M : Type 1} → statement M

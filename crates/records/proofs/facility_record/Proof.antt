@@ -19,9 +19,10 @@ same-length c = search needs
 returns : tie.Need-returns
 unfolding facilityRecord
 returns c =
-    let y = c .before .before .before .before .before .before in
+    let q = c .before .before in
+    let y = q .before .before .before .before in
     let h = y .before .before .before .before in
-    rw (c .before .before .write-digits2 .ensures, y .write-digits .ensures, h .write-heading .ensures)
+    rw (q .write-digits2 .ensures, y .write-digits .ensures, h .write-heading .ensures)
 
 pub facility-record-spec : {M : Type 1} → statement M
 facility-record-spec =

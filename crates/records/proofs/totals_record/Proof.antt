@@ -1,4 +1,4 @@
--- `records::totals_record` meets its contract: the heading and the four totals.
+-- `records::totals_record` meets its contract: the heading and the totals.
 use Rattle.records.specs.Records.{totalsRecord}
 use borrow.Author.Needs.{needs}
 use Rattle.records.proofs.totals_record.Statement.{statement}
@@ -16,8 +16,9 @@ same-length c = search needs
 returns : tie.Need-returns
 unfolding totalsRecord
 returns c =
-    let h = c .before .before .before .before .before .before in
-    rw (c .before .before .write-values .ensures, h .write-heading .ensures)
+    let v = c .before .before in
+    let h = v .before .before .before .before in
+    rw (v .write-values .ensures, h .write-heading .ensures)
 
 pub totals-record-spec : {M : Type 1} → statement M
 totals-record-spec =

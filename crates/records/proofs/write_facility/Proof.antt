@@ -32,9 +32,10 @@ same-length c = search needs
 
 returns : tie.Need-returns
 returns c =
-    let l = c .before .before .before .before in
+    let r = c .before .before in
+    let l = r .before .before in
     let s = l .before .before .before in
-    rw (c .before .before .facility-record .ensures, l .line-length .ensures .0)
+    rw (r .facility-record .ensures, l .line-length .ensures .0)
     (line-put 0 (lengthOf Facility) (s .args .buffer .now) (facilityRecord (s .args .year) (s .args .quarter) (s .args .name .now))
     (facility-length (s .args .name .now) (s .pre .1) (s .args .year) (s .args .quarter)) (omega arith))
 

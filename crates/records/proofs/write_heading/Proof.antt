@@ -1,17 +1,41 @@
 -- `records::write_heading` meets its contract: blanks, the type, the name.
-use mathlib.Core.Path.{_≡_, _∙_}
+use Prim.Native.Nat.{ℕ}
+use mathlib.Core.Path.{_≡_, ap, _∙_}
 use native.Mathlib.Omega.{arith}
-use lib.ListN.{length}
+use lib.ListN.{length, replicate}
+use Rattle.columns.specs.Columns.{put}
 use Rattle.columns.specs.WrittenLaws.{digits-length}
-use Rattle.layout.specs.Layout.{lengthOf, typeWidth}
+use Rattle.layout.specs.Layout.{lengthOf, typeStart, typeWidth, typeDigits}
 use Rattle.layout.specs.LayoutLaws.{length-least}
 use Rattle.records.specs.Records.{headed}
 use borrow.Author.Needs.{needs}
 use Rattle.records.proofs.write_heading.Statement.{statement}
 use Rattle.records.proofs.write_heading.Tie as tie
 
-fill-blank-requires : tie.Need-fill-blank-requires
-fill-blank-requires c κs = search needs
+-- the places of the code, each from the next one below it
+abbrev start : tie.After-fill-with → tie.Start
+start c = c .before .before .before .before
+
+abbrev filled : tie.After-type-digits → tie.After-fill-with
+filled c = c .before .before .before
+
+abbrev told : tie.After-digits → tie.After-type-digits
+told c = c .before .before
+
+abbrev typed : tie.After-write-bytes-arg2 → tie.After-write-bytes
+typed c = c .before .before .before
+
+-- the blank line has the type's length
+blank : (c : tie.After-fill-with) → length (c .fill-with .last .0) ≡ lengthOf (start c .args .t)
+blank c = c .fill-with .kept .0 ∙ start c .pre .0
+
+-- the type stands in it
+stands : (c : tie.After-write-bytes) →
+    let f = filled (told (c .before)) in c .write-bytes .last .0 ≡ put typeStart (typeDigits (start f .args .t)) (f .fill-with .last .0)
+stands c = rw (told (c .before) .type-digits .ensures) at (c .write-bytes .ensures)
+
+fill-with-requires : tie.Need-fill-with-requires
+fill-with-requires c κs = search needs
 
 type-digits-requires : tie.Need-type-digits-requires
 type-digits-requires c κs = search needs
@@ -19,21 +43,15 @@ type-digits-requires c κs = search needs
 slice-aggregate-write-bytes : tie.Need-slice-aggregate-write-bytes
 slice-aggregate-write-bytes c = search needs
 
--- the blank line has the type's length
-blank : (c : tie.After-fill-blank) → length (c .fill-blank .last .0) ≡ lengthOf (c .before .before .before .before .args .t)
-blank c = c .fill-blank .kept .0 ∙ c .before .before .before .before .pre .0
-
 write-bytes-requires : tie.Need-write-bytes-requires
 write-bytes-requires c κs =
-    let f = c .before .before .before .before .before in
-    rw (c .before .before .type-digits .ensures, digits-length typeWidth _)
-    (omega (arith, blank f, length-least (f .before .before .before .before .args .t)))
+    let f = filled (told c) in
+    rw (told c .type-digits .ensures, digits-length typeWidth _) (omega (arith, blank f, length-least (start f .args .t)))
 
 write-bytes-requires-2 : tie.Need-write-bytes-requires-2
 write-bytes-requires-2 c κs =
-    let w = c .before .before .before in
-    let f = w .before .before .before .before .before .before in
-    omega (arith, w .write-bytes .kept .0, blank f, length-least (f .before .before .before .before .args .t))
+    let f = filled (told (typed c .before)) in
+    omega (arith, typed c .write-bytes .kept .0, blank f, length-least (start f .args .t))
 
 same-length : tie.Need-same-length
 same-length c = search needs
@@ -41,17 +59,16 @@ same-length c = search needs
 returns : tie.Need-returns
 unfolding headed
 returns c =
-    let w = c .before .before .before .before .before .before in
-    let d = w .before .before .before in
-    let f = d .before .before .before in
-    let s = f .before .before .before .before in
-    rw (c .before .before .write-bytes2 .ensures, w .write-bytes .ensures, d .type-digits .ensures, f .fill-blank .ensures, s .pre .0)
+    let n = c .before .before in
+    let w = typed (n .before) in
+    let f = filled (told (w .before)) in
+    n .write-bytes2 .ensures ∙ ap (put _ _) (stands w ∙ ap (put _ _) (f .fill-with .ensures ∙ ap (λ (long : ℕ). replicate long 32) (start f .pre .0)))
 
 pub write-heading-spec : {M : Type 1} → statement M
 write-heading-spec =
     tie.close
     (tie.spec
-    fill-blank-requires
+    fill-with-requires
     type-digits-requires
     slice-aggregate-write-bytes
     write-bytes-requires

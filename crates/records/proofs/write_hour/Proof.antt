@@ -1,17 +1,26 @@
 -- `records::write_hour` meets its contract: a record and its byte 10.
-use Prim.Native.Nat.{_+_, _<_}
+use Prim.Native.Nat.{ℕ, _+_, _<_}
+use mathlib.Core.Path.{sym, ap, _∙_}
 use native.Mathlib.Omega.{arith}
 use lib.ListN.{length}
+use Rattle.columns.specs.Columns.{put}
 use Rattle.columns.specs.Written.{digitsOf}
 use Rattle.columns.specs.WrittenLaws.{digits-length}
 use Rattle.layout.specs.Layout.{lengthOf, dateWidth, offsetOf}
 use Rattle.layout.specs.PlaceLaws.{line-inside}
-use Rattle.records.specs.Records.{datedRecord}
+use Rattle.records.specs.Records.{ended, datedRecord}
 use Rattle.records.specs.RecordLaws.{dated-length}
 use Rattle.records.proofs.Lines.{line-put}
 use borrow.Author.Needs.{needs}
 use Rattle.records.proofs.write_hour.Statement.{statement}
 use Rattle.records.proofs.write_hour.Tie as tie
+
+-- the places of the code, each from the next one below it
+abbrev start : tie.After-offset-of → tie.Start
+start c = c .before .before .before
+
+abbrev sized : tie.After-hour-record → tie.After-line-length
+sized c = c .before .before
 
 -- the line lies in the buffer
 inside : (c : tie.Start) → offsetOf (c .args .s) (c .args .t) (c .args .k) + lengthOf (c .args .t) < length (c .args .buffer .now)
@@ -19,16 +28,15 @@ inside c =
     let f = c .pre .0 in
     omega (arith, line-inside (c .args .s) (c .args .t) (c .args .k) (rw (c .pre .1) (f .rank)), f .room)
 
+-- where the line ends
+ends : (c : tie.After-line-length) → c .before .offset-of .result + c .line-length .result < length (start (c .before) .args .buffer .now)
+ends c = omega (arith, c .before .offset-of .ensures, c .line-length .ensures .0, inside (start (c .before)))
+
 offset-of-requires : tie.Need-offset-of-requires
 offset-of-requires c κs = let f = c .before .before .pre .0 in (f .held, omega (arith, f .rank, f .held .hours))
 
 line-length-requires : tie.Need-line-length-requires
 line-length-requires c κs = search needs
-
--- where the line ends
-ends : (c : tie.After-line-length) →
-    let s = c .before .before .before .before in c .before .offset-of .result + c .line-length .result < length (s .args .buffer .now)
-ends c = rw (c .before .offset-of .ensures, c .line-length .ensures .0) (inside (c .before .before .before .before))
 
 add-end : tie.Need-add-end
 add-end c = omega (arith, ends c)
@@ -46,20 +54,24 @@ hour-record-requires : tie.Need-hour-record-requires
 hour-record-requires c κs = search needs
 
 slice-write-buffer : tie.Need-slice-write-buffer
-slice-write-buffer c = omega (arith, ends (c .before .before .before .before), c .before .before .hour-record .kept .0)
+slice-write-buffer c = let r = c .before .before in omega (arith, ends (sized r), r .hour-record .kept .0)
 
 same-length : tie.Need-same-length
 same-length c = search needs
 
 returns : tie.Need-returns
 returns c =
-    let l = c .before .before .before .before in
-    let s = l .before .before .before .before in
+    let r = c .before .before in
+    let l = sized r in
+    let o = l .before in
+    let s = start o in
     let x = s .args in
     let date = digitsOf dateWidth (x .date) in
-    rw (c .before .before .hour-record .ensures, l .line-length .ensures .0, l .before .offset-of .ensures)
-    (line-put (offsetOf (x .s) (x .t) (x .k)) (lengthOf (x .t)) (x .buffer .now) (datedRecord (x .name .now) (x .t) date (x .h))
-    (dated-length (x .name .now) (s .pre .0 .named) (x .t) date (x .h) (digits-length dateWidth (x .date))) (inside s))
+    let record-of-hour = datedRecord (x .name .now) (x .t) date (x .h) in
+    let long = dated-length (x .name .now) (s .pre .0 .named) (x .t) date (x .h) (digits-length dateWidth (x .date)) in
+    rw (r .hour-record .ensures)
+    (line-put (o .offset-of .result) (l .line-length .result) (x .buffer .now) record-of-hour (long ∙ sym (l .line-length .ensures .0)) (ends l)
+    ∙ ap (λ (at : ℕ). put (at + 1) (ended record-of-hour) (x .buffer .now)) (o .offset-of .ensures))
 
 pub write-hour-spec : {M : Type 1} → statement M
 write-hour-spec =

@@ -35,9 +35,10 @@ same-length c = search needs
 
 returns : tie.Need-returns
 returns c =
-    let l = c .before .before .before .before in
+    let r = c .before .before in
+    let l = r .before .before in
     let s = l .before .before .before in
-    rw (c .before .before .totals-record .ensures, l .line-length .ensures .0)
+    rw (r .totals-record .ensures, l .line-length .ensures .0)
     (line-put (s .args .at) (lengthOf QuarterTotals) (s .args .buffer .now) (totalsRecord (s .args .name .now) (s .args .q))
     (totals-length (s .args .name .now) (s .pre .1) (s .args .q)) (omega arith))
 

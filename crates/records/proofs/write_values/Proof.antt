@@ -19,6 +19,17 @@ Inv-loop line₀ t values count i₀ line i =
 abbrev μ-loop : tie.MeasureT-loop
 μ-loop line₀ t values count i₀ line i = valueCount t - i
 
+-- the places of the code, each from the next one below it
+abbrev start : tie.At-loop Inv-loop μ-loop → tie.Start Inv-loop μ-loop
+start c = c .before .before .before
+
+abbrev turn : tie.After-value-at Inv-loop μ-loop → tie.At-loop Inv-loop μ-loop
+turn c = c .before .before
+
+-- the values are an array
+most : (c : tie.Start Inv-loop μ-loop) → length (c .args .t3) ≡ mostValues
+most c = search needs
+
 value-count-requires : tie.Need-value-count-requires Inv-loop μ-loop
 value-count-requires c κs = search needs
 
@@ -29,18 +40,15 @@ value-at-requires : tie.Need-value-at-requires Inv-loop μ-loop
 value-at-requires c κs = omega arith
 
 mul-write-number : tie.Need-mul-write-number Inv-loop μ-loop
-mul-write-number c = omega (arith, values-most (c .before .before .before .before .before .before .args .t))
+mul-write-number c = omega (arith, values-most (start (turn (c .before)) .args .t))
 
 array-read-write-number : tie.Need-array-read-write-number Inv-loop μ-loop
-array-read-write-number c =
-    let most : length (c .before .before .before .before .before .before .args .t3) ≡ mostValues = search needs in
-    omega (arith, values-most (c .before .before .before .before .before .before .args .t))
+array-read-write-number c = let s = start (turn (c .before)) in omega (arith, most s, values-most (s .args .t))
 
 write-number-requires : tie.Need-write-number-requires Inv-loop μ-loop
 write-number-requires c κs =
-    let l = c .before .before .before .loop in
-    let s = c .before .before .before .before .before .before in
-    let i = value-inside (s .args .t) (l .i) (omega arith) in
+    let l = turn (c .before) in
+    let i = value-inside (start l .args .t) (l .loop .i) (omega arith) in
     rw (c .before .value-at .ensures) (omega arith)
 
 add-i : tie.Need-add-i Inv-loop μ-loop
@@ -51,14 +59,13 @@ loop-less c = omega arith
 
 loop-again : tie.Need-loop-again Inv-loop μ-loop
 loop-again c =
-    let l = c .before .before .before .before .before .before .loop in
-    let s = c .before .before .before .before .before .before .before .before .before in
-    let w = c .before .before .write-number in
-    let v = c .before .before .before .before .value-at in
-    let most : length (s .args .t3) ≡ mostValues = search needs in (
+    let w = c .before .before in
+    let v = w .before .before in
+    let l = turn v .loop in
+    let s = start (turn v) in (
       omega arith,
-      w .kept .0 ∙ l .inv .1,
-      rw (w .ensures, v .ensures) (values-more (s .args .t) (s .args .t3) (l .i) (l .line) (omega arith) most) ∙ l .inv .2,
+      w .write-number .kept .0 ∙ l .inv .1,
+      rw (w .write-number .ensures, v .value-at .ensures) (values-more (s .args .t) (s .args .t3) (l .i) (l .line) (omega arith) (most s) ∙ l .inv .2),
     )
 
 same-length : tie.Need-same-length Inv-loop μ-loop
@@ -67,8 +74,8 @@ same-length c = c .before .loop .inv .1
 returns : tie.Need-returns Inv-loop μ-loop
 returns c =
     let l = c .before .loop in
-    let s = c .before .before .before .before in
-    sym (values-end (s .args .t) (s .args .t3) (l .i) (l .line) (omega arith)) ∙ l .inv .2
+    let x = start (c .before) .args in
+    sym (values-end (x .t) (x .t3) (l .i) (l .line) (omega arith)) ∙ l .inv .2
 
 pub write-values-spec : {M : Type 1} → statement M
 write-values-spec =

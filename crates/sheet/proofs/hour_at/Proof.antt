@@ -4,7 +4,7 @@ use mathlib.Core.Path.{_≡_}
 use mathlib.Core.List.{List}
 use native.Mathlib.Nat.{add-zero}
 use lib.ListN.{getD}
-use Rattle.sheet.specs.Sheet.{hourWords, valueOf, sheetValue, timeSize, hourAt}
+use Rattle.sheet.specs.Sheet.{hourWords, wordValue, sheetValue, timeSize, sheetHour}
 use Rattle.sheet.specs.declared.SheetHour.{SheetHour}
 use borrow.Author.Needs.{needs}
 use Rattle.sheet.proofs.hour_at.Statement.{statement}
@@ -13,45 +13,45 @@ use Rattle.sheet.proofs.hour_at.Tie as tie
 mul-first : tie.Need-mul-first
 mul-first c = search needs
 
-value-at-requires : tie.Need-value-at-requires
-value-at-requires c κs = search needs
+word-value-requires : tie.Need-word-value-requires
+word-value-requires c κs = search needs
 
-add-value-at : tie.Need-add-value-at
-add-value-at c = search needs
+add-word-value : tie.Need-add-word-value
+add-word-value c = search needs
 
-value-at-requires-2 : tie.Need-value-at-requires-2
-value-at-requires-2 c κs = search needs
+word-value-requires-2 : tie.Need-word-value-requires-2
+word-value-requires-2 c κs = search needs
 
-add-value-at-2 : tie.Need-add-value-at-2
-add-value-at-2 c = search needs
+add-word-value-2 : tie.Need-add-word-value-2
+add-word-value-2 c = search needs
 
-value-at-requires-3 : tie.Need-value-at-requires-3
-value-at-requires-3 c κs = search needs
+word-value-requires-3 : tie.Need-word-value-requires-3
+word-value-requires-3 c κs = search needs
 
-add-value-at-3 : tie.Need-add-value-at-3
-add-value-at-3 c = search needs
+add-word-value-3 : tie.Need-add-word-value-3
+add-word-value-3 c = search needs
 
-value-at-requires-4 : tie.Need-value-at-requires-4
-value-at-requires-4 c κs = search needs
+word-value-requires-4 : tie.Need-word-value-requires-4
+word-value-requires-4 c κs = search needs
 
-add-value-at-4 : tie.Need-add-value-at-4
-add-value-at-4 c = search needs
+add-word-value-4 : tie.Need-add-word-value-4
+add-word-value-4 c = search needs
 
-value-at-requires-5 : tie.Need-value-at-requires-5
-value-at-requires-5 c κs = search needs
+word-value-requires-5 : tie.Need-word-value-requires-5
+word-value-requires-5 c κs = search needs
 
-add-value-at-5 : tie.Need-add-value-at-5
-add-value-at-5 c = search needs
+add-word-value-5 : tie.Need-add-word-value-5
+add-word-value-5 c = search needs
 
-value-at-requires-6 : tie.Need-value-at-requires-6
-value-at-requires-6 c κs = search needs
+word-value-requires-6 : tie.Need-word-value-requires-6
+word-value-requires-6 c κs = search needs
 
-told : (sheet : List ℕ) (k : ℕ) {hour so2 nox co2 flow fc : ℕ} → hour ≡ valueOf (getD sheet (hourWords * k) 0) → so2 ≡ sheetValue sheet k 1
+told : (sheet : List ℕ) (k : ℕ) {hour so2 nox co2 flow fc : ℕ} → hour ≡ wordValue (getD sheet (hourWords * k) 0) → so2 ≡ sheetValue sheet k 1
     → nox ≡ sheetValue sheet k 2 → co2 ≡ sheetValue sheet k 3 → flow ≡ sheetValue sheet k 4 → fc ≡ sheetValue sheet k 5
     → _≡_ {A = SheetHour}
     (record { hour = hour / timeSize; time = hour % timeSize; readings = record { so2 = so2; nox = nox; co2 = co2; flow = flow; fc = fc } })
-    (hourAt sheet k)
-unfolding hourAt
+    (sheetHour sheet k)
+unfolding sheetHour
 told sheet k h s n c f g = rw (h, s, n, c, f, g, add-zero)
 
 returns : tie.Need-returns
@@ -60,23 +60,23 @@ returns c =
     let d = f .before in
     let n = d .before in
     let s = n .before in
-    told _ _ (s .before .value-at .ensures) (s .value-at2 .ensures) (n .value-at3 .ensures)
-    (d .value-at4 .ensures) (f .value-at5 .ensures) (c .value-at6 .ensures)
+    told _ _ (s .before .word-value .ensures) (s .word-value2 .ensures) (n .word-value3 .ensures)
+    (d .word-value4 .ensures) (f .word-value5 .ensures) (c .word-value6 .ensures)
 
 pub hour-at-spec : {M : Type 1} → statement M
 hour-at-spec =
     tie.close
     (tie.spec
     mul-first
-    value-at-requires
-    add-value-at
-    value-at-requires-2
-    add-value-at-2
-    value-at-requires-3
-    add-value-at-3
-    value-at-requires-4
-    add-value-at-4
-    value-at-requires-5
-    add-value-at-5
-    value-at-requires-6
+    word-value-requires
+    add-word-value
+    word-value-requires-2
+    add-word-value-2
+    word-value-requires-3
+    add-word-value-3
+    word-value-requires-4
+    add-word-value-4
+    word-value-requires-5
+    add-word-value-5
+    word-value-requires-6
     returns)

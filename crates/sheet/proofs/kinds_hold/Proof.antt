@@ -16,6 +16,9 @@ Inv-loop sheet k first j₀ j = (j ≤ hourWords) × (kindsRise sheet k j (hourW
 abbrev μ-loop : tie.MeasureT-loop
 μ-loop sheet k first j₀ j = hourWords - j
 
+abbrev turn : tie.After-word-apart Inv-loop μ-loop → tie.At-loop Inv-loop μ-loop
+turn c = c .before .before .before
+
 mul-first : tie.Need-mul-first Inv-loop μ-loop
 mul-first c = omega arith
 
@@ -36,7 +39,7 @@ word-apart-requires c κs = search needs
 
 returns : tie.Need-returns Inv-loop μ-loop
 returns c =
-    let l = c .before .before .before .before .loop in
+    let l = turn (c .before) .loop in
     let w = ap (λ (w : Word). w .kind) (c .before .word-apart .ensures) in
     kinds-stop _ _ (l .j) (omega arith) (λ e. omega arith) ∙ l .inv .1
 
@@ -48,7 +51,7 @@ loop-less c = omega arith
 
 loop-again : tie.Need-loop-again Inv-loop μ-loop
 loop-again c =
-    let l = c .before .before .before .before .loop in
+    let l = turn (c .before) .loop in
     let w = ap (λ (w : Word). w .kind) (c .before .word-apart .ensures) in
     (omega arith, kinds-more _ _ (l .j) (omega arith) (omega arith) ∙ l .inv .1)
 

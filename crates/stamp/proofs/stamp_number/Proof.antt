@@ -10,14 +10,14 @@ use Rattle.stamp.proofs.stamp_number.Tie as tie
 date-of-hour-requires : tie.Need-date-of-hour-requires
 date-of-hour-requires c κs = search needs
 
-number-of-requires : tie.Need-number-of-requires
-number-of-requires c κs =
+date-number-requires : tie.Need-date-number-requires
+date-number-requires c κs =
     let s = c .before in
     rw (c .date-of-hour .ensures) (date-of-hour-two-digits (s .args .year) (s .args .quarter) (s .pre .0) (s .args .hour) (s .pre .1))
 
 returns : tie.Need-returns
 unfolding stampNumber
-returns c = c .number-of .ensures ∙ ap (dateNumber (c .before .before .args .year)) (c .before .date-of-hour .ensures)
+returns c = c .date-number .ensures ∙ ap (dateNumber (c .before .before .args .year)) (c .before .date-of-hour .ensures)
 
 pub stamp-number-spec : {M : Type 1} → statement M
-stamp-number-spec = tie.close (tie.spec date-of-hour-requires number-of-requires returns)
+stamp-number-spec = tie.close (tie.spec date-of-hour-requires date-number-requires returns)

@@ -1,5 +1,4 @@
--- `totals::mean` meets its contract: 0 of no hours, and else the fraction reduced by 1,000.
--- Assumes nothing.
+-- 0 of no hours, and else the fraction reduced by 1,000.
 use native.Mathlib.Omega.{arith}
 use Rattle.totals.proofs.Sums.{mean-none, mean-some}
 use borrow.Author.Needs.{needs}

@@ -1,11 +1,21 @@
--- `totals::share_of` meets its contract: each part is a weighted rate.
--- Assumes nothing.
-use mathlib.Core.Path.{_∙_}
+-- Each part is a weighted rate.
+use mathlib.Core.Path.{refl, ap₂, _∙_}
+use mathlib.Core.List.{_∷_}
 use native.Mathlib.Nat.{mul-one}
-use Rattle.totals.proofs.Sums.{four-at, share-room}
+use Rattle.totals.proofs.Sums.{share-room}
 use borrow.Author.Needs.{needs}
 use Rattle.totals.proofs.share_of.Statement.{statement}
 use Rattle.totals.proofs.share_of.Tie as tie
+
+-- the shares in the order of the code, each from the next one
+abbrev so2 : tie.After-weighted2 → tie.After-weighted
+so2 c = c .before
+
+abbrev co2 : tie.After-weighted3 → tie.After-weighted2
+co2 c = c .before
+
+abbrev heat : tie.After-weighted4 → tie.After-weighted3
+heat c = c .before
 
 weighted-requires : tie.Need-weighted-requires
 weighted-requires c κs = search needs
@@ -21,11 +31,14 @@ weighted-requires-4 c κs = search needs
 
 returns : tie.Need-returns
 returns c =
-    let so2 = c .before .before .before .weighted .ensures in
-    let co2 = c .before .before .weighted2 .ensures in
-    let heat = c .before .weighted3 .ensures in
     let nox = c .weighted4 .ensures in
-    (four-at (so2 .0) (co2 .0) (heat .0) (nox .0 ∙ mul-one _), share-room _ _ _ _ (so2 .1) (co2 .1) (heat .1) (nox .1))
+    let h = heat c in
+    let o = co2 h in
+    let s = so2 o in (
+      ap₂ _∷_ (s .weighted .ensures .0)
+          (ap₂ _∷_ (o .weighted2 .ensures .0) (ap₂ _∷_ (h .weighted3 .ensures .0) (ap₂ _∷_ (nox .0 ∙ mul-one _) refl))),
+      share-room refl (s .weighted .ensures .1, (o .weighted2 .ensures .1, (h .weighted3 .ensures .1, (nox .1, tt)))),
+    )
 
 pub share-of-spec : {M : Type 1} → statement M
 share-of-spec = tie.close (tie.spec weighted-requires weighted-requires-2 weighted-requires-3 weighted-requires-4 returns)

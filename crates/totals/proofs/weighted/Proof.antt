@@ -1,5 +1,4 @@
--- `totals::weighted` meets its contract: a product is at most the product of the bounds.
--- Assumes nothing.
+-- A product is at most the product of the bounds.
 use native.Mathlib.Nat.{mul-le-mul}
 use native.Mathlib.Omega.{arith}
 use Rattle.totals.proofs.weighted.Statement.{statement}

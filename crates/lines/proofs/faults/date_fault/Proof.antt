@@ -1,12 +1,25 @@
 -- The date and hour of a line, where its type has one, compared with the one that it must be.
-use Rattle.lines.proofs.Values.{date-told}
-use mathlib.Core.Path.{sym, _∙_}
+use Rattle.lines.proofs.Values.{date-compared}
+use mathlib.Core.Path.{_≡_, sym, _∙_}
+use Rattle.layout.specs.Layout.{dateColumn}
 use Rattle.layout.specs.LayoutLaws.{date-fits}
 use native.Mathlib.Omega.{arith}
-use Rattle.lines.specs.LineFaults.{dateFault}
+use Rattle.lines.specs.LineFaults.{unless, dateFault}
 use borrow.Author.Needs.{needs}
 use Rattle.lines.proofs.faults.date_fault.Statement.{statement}
 use Rattle.lines.proofs.faults.date_fault.Tie as tie
+
+-- the places of the code, each from the next one below it
+abbrev start : tie.Else1 → tie.Start
+start c = c .before .before .before .before
+
+abbrev columned : tie.After-same-bytes → tie.Else1
+columned c = c .before .before
+
+-- the verdict of the comparison
+told : (c : tie.After-same-bytes) → let x = start (columned c) .args in
+    dateFault (dateColumn (x .t)) (x .date .now) (x .line .now) ≡ unless (c .same-bytes .result) 7
+told c = date-compared _ _ _ _ _ (columned c .before .date-column .ensures) (columned c .if1 .left) (c .same-bytes .ensures)
 
 date-column-requires : tie.Need-date-column-requires
 date-column-requires c κs = search needs
@@ -19,7 +32,7 @@ sub-from : tie.Need-sub-from
 sub-from c = search needs
 
 add-same-bytes : tie.Need-add-same-bytes
-add-same-bytes c = omega (arith, date-fits (c .before .before .before .before .args .t))
+add-same-bytes c = omega (arith, date-fits (start c .args .t))
 
 sub-same-bytes : tie.Need-sub-same-bytes
 sub-same-bytes c = search needs
@@ -28,20 +41,16 @@ part-same-bytes-start : tie.Need-part-same-bytes-start
 part-same-bytes-start c = search needs
 
 part-same-bytes-end : tie.Need-part-same-bytes-end
-part-same-bytes-end c = omega (arith, date-fits (c .before .before .before .before .args .t))
+part-same-bytes-end c = omega (arith, date-fits (start c .args .t))
 
 same-bytes-requires : tie.Need-same-bytes-requires
 same-bytes-requires c κs = search needs
 
 returns-2 : tie.Need-returns-2
-returns-2 c =
-    let x = c .before .before .before .before .before .before .before .args in
-    sym (date-told _ (x .date .now) (x .line .now) _ _ (c .before .before .before .before .date-column .ensures) (c .before .before .before .if1 .left) (c .before .same-bytes .ensures) ∙ rw (c .if2 .taken))
+returns-2 c = sym (told (c .before) ∙ rw (c .if2 .taken))
 
 returns-3 : tie.Need-returns-3
-returns-3 c =
-    let x = c .before .before .before .before .before .before .before .args in
-    sym (date-told _ (x .date .now) (x .line .now) _ _ (c .before .before .before .before .date-column .ensures) (c .before .before .before .if1 .left) (c .before .same-bytes .ensures) ∙ rw (c .if2 .left))
+returns-3 c = sym (told (c .before) ∙ rw (c .if2 .left))
 
 pub date-fault-spec : {M : Type 1} → statement M
 date-fault-spec =

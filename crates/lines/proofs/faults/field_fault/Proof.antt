@@ -1,10 +1,10 @@
 -- What a field holds: no number is 8, a number outside its range 9.
-use mathlib.Core.Path.{_≡_, refl, sym, ap, _∙_}
+use mathlib.Core.Path.{_≡_}
 use mathlib.Core.Bool.{Bool}
 use Prim.Native.Nat.{ℕ}
 use borrow.Author.Needs.{needs}
 use Rattle.columns.specs.declared.Field.{Field}
-use Rattle.columns.specs.declared.Field.the-variants.{Blank, Malformed, Number}
+use Rattle.columns.specs.declared.Field.the-variants.{Number}
 use Rattle.layout.specs.Layout.{within}
 use Rattle.layout.specs.declared.Value.{Value}
 use Rattle.lines.specs.LineFaults.{unless, fieldFault}
@@ -15,6 +15,10 @@ number-fault : (v : Value) (f : Field) (k : ℕ) (b r : Bool) → f ≡ Number k
 unfolding fieldFault
 number-fault v f k b r e h g = rw (e, ← h, g)
 
+-- where the field holds a number
+abbrev number : tie.After-within → tie.After-field
+number c = c .before .before
+
 enum-known-field : tie.Need-enum-known-field
 enum-known-field c = search needs
 
@@ -22,7 +26,7 @@ within-requires : tie.Need-within-requires
 within-requires c κs = search needs
 
 returns : tie.Need-returns
-returns c = number-fault _ _ _ _ _ (c .before .before .before .field .given .1) (c .before .within .ensures) (c .if1 .taken)
+returns c = number-fault _ _ _ _ _ (number (c .before) .field .given .1) (c .before .within .ensures) (c .if1 .taken)
 
 enum-told : tie.Need-enum-told
 enum-told c = search needs
@@ -31,7 +35,7 @@ enum-told-2 : tie.Need-enum-told-2
 enum-told-2 c = search needs
 
 returns-2 : tie.Need-returns-2
-returns-2 c = number-fault _ _ _ _ _ (c .before .before .before .field .given .1) (c .before .within .ensures) (c .if1 .left)
+returns-2 c = number-fault _ _ _ _ _ (number (c .before) .field .given .1) (c .before .within .ensures) (c .if1 .left)
 
 returns-3 : tie.Need-returns-3
 unfolding fieldFault

@@ -32,22 +32,18 @@ part-same-bytes-end-2 c = search needs
 same-bytes-requires : tie.Need-same-bytes-requires
 same-bytes-requires c κs = search needs
 
-stack-told : (facility line : List ℕ) {b : Bool} → b ≡ same (columns stackStart stackWidth line) (columns stackStart stackWidth facility) →
+stack-compared : (facility line : List ℕ) {b : Bool} → b ≡ same (columns stackStart stackWidth line) (columns stackStart stackWidth facility) →
     stackFault facility line ≡ unless b 5
 unfolding stackFault
-stack-told facility line e = rw e
+stack-compared facility line e = rw e
 
 returns : tie.Need-returns
 unfolding columns
-returns c =
-    let x = c .before .before .before .before .before .before .args in
-    sym (stack-told (x .facility .now) (x .line .now) (c .before .same-bytes .ensures) ∙ rw (c .if1 .taken))
+returns c = sym (stack-compared _ _ (c .before .same-bytes .ensures) ∙ rw (c .if1 .taken))
 
 returns-2 : tie.Need-returns-2
 unfolding columns
-returns-2 c =
-    let x = c .before .before .before .before .before .before .args in
-    sym (stack-told (x .facility .now) (x .line .now) (c .before .same-bytes .ensures) ∙ rw (c .if1 .left))
+returns-2 c = sym (stack-compared _ _ (c .before .same-bytes .ensures) ∙ rw (c .if1 .left))
 
 pub stack-fault-spec : {M : Type 1} → statement M
 stack-fault-spec =

@@ -25,9 +25,7 @@ unfolding isLine
 returns-2 c = rw (ne-eqb _ 10 (c .if2 .taken))
 
 slice-aggregate-all-printable : tie.Need-slice-aggregate-all-printable
-slice-aggregate-all-printable c =
-    let x = c .before .before .before .before .before .args in
-    sym (length-take-le (x .long) (x .rest .now) (omega arith))
+slice-aggregate-all-printable c = sym (length-take-le _ _ (omega arith))
 
 all-printable-requires : tie.Need-all-printable-requires
 all-printable-requires c κs = search needs

@@ -1,6 +1,7 @@
 -- The length of a first line: the bytes passed and the length of the first line of what is left are that of the whole.
-use Prim.Native.Nat.{_+_, _-_, _≤_}
+use Prim.Native.Nat.{ℕ, _+_, _-_, _≤_}
 use mathlib.Core.Path.{_≡_, ap}
+use mathlib.Core.List.{List}
 use native.Mathlib.Omega.{arith}
 use lib.ListN.{length, drop}
 use Rattle.lines.specs.Lines.{firstLine}
@@ -14,6 +15,16 @@ Inv-loop rest i₀ i = (i ≤ length rest) × (i + length (firstLine (drop i res
 abbrev μ-loop : tie.MeasureT-loop
 μ-loop rest i₀ i = length rest - i
 
+-- the places of the code, each from the next one below it
+abbrev start : tie.At-loop Inv-loop μ-loop → tie.Start Inv-loop μ-loop
+start c = c .before
+
+abbrev passed : tie.After-shared-slice-known Inv-loop μ-loop → tie.At-loop Inv-loop μ-loop
+passed c = c .before .before
+
+abbrev rest : tie.At-loop Inv-loop μ-loop → List ℕ
+rest c = start c .args .rest .now
+
 loop-holds : tie.Need-loop-holds Inv-loop μ-loop
 loop-holds c = omega arith
 
@@ -22,9 +33,8 @@ shared-slice-read-if1 c = omega arith
 
 returns : tie.Need-returns Inv-loop μ-loop
 returns c =
-    let l = c .before .before .before .loop in
-    let rest = c .before .before .before .before .args .rest .now in
-    omega (arith, ap length (line-stop rest (l .i) (omega arith) (c .if1 .taken)))
+    let l = passed (c .before) in
+    omega (arith, ap length (line-stop (rest l) (l .loop .i) (omega arith) (c .if1 .taken)))
 
 add-i : tie.Need-add-i Inv-loop μ-loop
 add-i c = omega arith
@@ -34,15 +44,11 @@ loop-less c = omega arith
 
 loop-again : tie.Need-loop-again Inv-loop μ-loop
 loop-again c =
-    let l = c .before .before .before .loop in
-    let rest = c .before .before .before .before .args .rest .now in
-    omega (arith, line-one rest (l .i) (omega arith) (c .if1 .left))
+    let l = passed (c .before) in
+    omega (arith, line-one (rest l) (l .loop .i) (omega arith) (c .if1 .left))
 
 returns-2 : tie.Need-returns-2 Inv-loop μ-loop
-returns-2 c =
-    let l = c .before .loop in
-    let rest = c .before .before .args .rest .now in
-    omega (arith, ap length (line-over rest (l .i) (omega arith)))
+returns-2 c = omega (arith, ap length (line-over (rest (c .before)) (c .before .loop .i) (omega arith)))
 
 pub line-end-spec : {M : Type 1} → statement M
 line-end-spec =

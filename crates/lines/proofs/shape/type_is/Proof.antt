@@ -12,18 +12,21 @@ use borrow.Author.Needs.{needs}
 use Rattle.lines.proofs.shape.type_is.Statement.{statement}
 use Rattle.lines.proofs.shape.type_is.Tie as tie
 
+-- the places of the code, each from the next one below it
+abbrev start : tie.After-type-digits → tie.Start
+start c = c .before .before .before
+
+abbrev typed : tie.After-same-bytes → tie.After-type-digits
+typed c = c .before .before .before
+
 returns : tie.Need-returns
-returns c =
-    let x = c .before .before .args in
-    sym (type-short (x .t) (x .rest .now) (omega arith))
+returns c = sym (type-short _ _ (omega arith))
 
 type-digits-requires : tie.Need-type-digits-requires
 type-digits-requires c κs = search needs
 
 slice-aggregate-same-bytes : tie.Need-slice-aggregate-same-bytes
-slice-aggregate-same-bytes c =
-    let x = c .before .before .before .before .args in
-    sym (length-take-le typeWidth (x .rest .now) (omega arith))
+slice-aggregate-same-bytes c = sym (length-take-le typeWidth (start (c .before) .args .rest .now) (omega arith))
 
 slice-aggregate-same-bytes-2 : tie.Need-slice-aggregate-same-bytes-2
 slice-aggregate-same-bytes-2 c = search needs
@@ -33,10 +36,9 @@ same-bytes-requires c κs = search needs
 
 returns-2 : tie.Need-returns-2
 returns-2 c =
-    let x = c .before .before .before .before .before .before .args in
-    c .same-bytes .ensures
-    ∙ ap (λ (ds : List ℕ). same (take typeWidth (x .rest .now)) ds) (c .before .before .before .type-digits .ensures)
-    ∙ sym (type-bytes (x .t) (x .rest .now))
+    let k = typed c in
+    let rest = start k .args .rest .now in
+    c .same-bytes .ensures ∙ ap (λ (ds : List ℕ). same (take typeWidth rest) ds) (k .type-digits .ensures) ∙ sym (type-bytes _ rest)
 
 pub type-is-spec : {M : Type 1} → statement M
 type-is-spec =

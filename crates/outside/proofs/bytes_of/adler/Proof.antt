@@ -15,6 +15,13 @@ Inv-loop bytes a₀ b₀ i₀ a b i = (i ≤ length bytes) × (a < 65521) × (b 
 abbrev μ-loop : tie.MeasureT-loop
 μ-loop bytes a₀ b₀ i₀ a b i = length bytes - i
 
+-- the places of the code, each from the next one below it
+abbrev start : tie.At-loop Inv-loop μ-loop → tie.Start Inv-loop μ-loop
+start c = c .before .before
+
+abbrev passed : tie.After-wide Inv-loop μ-loop → tie.At-loop Inv-loop μ-loop
+passed c = c .before .before .before
+
 loop-holds : tie.Need-loop-holds Inv-loop μ-loop
 loop-holds c = (omega arith, omega arith, omega arith, refl)
 
@@ -38,8 +45,8 @@ loop-less c = search needs
 
 loop-again : tie.Need-loop-again Inv-loop μ-loop
 loop-again c =
-    let x = c .before .before .before .before .before .args in
-    let l = c .before .before .before .loop in (
+    let x = start (passed c) .args in
+    let l = passed c .loop in (
       omega arith,
       omega arith,
       omega arith,
@@ -55,7 +62,7 @@ add-result c = search needs
 returns : tie.Need-returns Inv-loop μ-loop
 returns c =
     let l = c .before .loop in
-    sym (adler-end (c .before .before .before .args .bytes .now) (l .i) (l .a) (l .b) (omega arith)) ∙ l .inv .3
+    sym (adler-end (start (c .before) .args .bytes .now) (l .i) (l .a) (l .b) (omega arith)) ∙ l .inv .3
 
 pub adler-spec : {M : Type 1} → statement M
 adler-spec =

@@ -16,6 +16,13 @@ Inv-loop bytes sheet₀ i₀ sheet i = (i ≤ length sheet) × (length sheet ≡
 abbrev μ-loop : tie.MeasureT-loop
 μ-loop bytes sheet₀ i₀ sheet i = length sheet - i
 
+-- the places of the code, each from the next one below it
+abbrev start : tie.At-loop Inv-loop μ-loop → tie.Start Inv-loop μ-loop
+start c = c .before .before .before
+
+abbrev passed : tie.After-number-at Inv-loop μ-loop → tie.At-loop Inv-loop μ-loop
+passed c = c .before .before
+
 loop-holds : tie.Need-loop-holds Inv-loop μ-loop
 unfolding wordsOf
 loop-holds c = (omega arith, refl, refl)
@@ -43,8 +50,8 @@ loop-less c = simp length-set (omega arith)
 
 loop-again : tie.Need-loop-again Inv-loop μ-loop
 loop-again c =
-    let x = c .before .before .before .before .before .args in
-    let l = c .before .before .loop in
+    let x = start (passed c) .args in
+    let l = passed c .loop in
     let e : c .number-at .result ≡ numberAt (x .bytes .now) (4 * l .i) = c .number-at .ensures .0 in (
       simp length-set (omega arith),
       simp length-set (omega arith),
@@ -57,7 +64,7 @@ same-length c = c .before .loop .inv .1
 returns : tie.Need-returns Inv-loop μ-loop
 returns c =
     let l = c .before .loop in
-    let x = c .before .before .before .before .args in
+    let x = start (c .before) .args in
     let e : l .i ≡ length (x .sheet .now) = omega arith in
     sym (take-all (l .i) (l .sheet) (omega arith)) ∙ l .inv .2 ∙ ap (λ (n : ℕ). wordsOf n (x .bytes .now)) e
 

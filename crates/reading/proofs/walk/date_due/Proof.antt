@@ -7,10 +7,20 @@ use borrow.Author.Needs.{needs}
 use Rattle.reading.proofs.walk.date_due.Statement.{statement}
 use Rattle.reading.proofs.walk.date_due.Tie as tie
 
-below : (c : tie.After-enum-told2) → c .before .before .before .before .args .k < c .before .before .before .before .args .n
+-- the places of the code, each from the next one below it
+abbrev start : tie.After-row-of → tie.Start
+start c = c .before .before
+
+abbrev once : tie.After-enum-told → tie.After-row-of
+once c = c .before .before
+
+abbrev hourly : tie.After-enum-told2 → tie.After-row-of
+hourly c = c .before .before
+
+below : (c : tie.After-enum-told2) → let x = start (hourly c) .args in x .k < x .n
 below c =
-    let x = c .before .before .before .before in
-    rw (run-lines (x .args .t) (c .before .before .row-of .ensures) (c .enum-told2 .given .1) (x .args .n)) at (x .pre .1)
+    let x = start (hourly c) in
+    rw (run-lines (x .args .t) (hourly c .row-of .ensures) (c .enum-told2 .given .1) (x .args .n)) at (x .pre .1)
 
 row-of-requires : tie.Need-row-of-requires
 row-of-requires c κs = search needs
@@ -44,13 +54,15 @@ part-result-end c = omega (arith, below c)
 
 returns : tie.Need-returns
 returns c =
-    let x = c .before .before .before .before .before .args in
-    run-date (x .t) (c .before .before .before .row-of .ensures) (c .before .enum-told .given .1) (x .file .now) (x .k)
+    let r = once (c .before) in
+    let x = start r .args in
+    run-date (x .t) (r .row-of .ensures) (c .before .enum-told .given .1) (x .file .now) (x .k)
 
 returns-2 : tie.Need-returns-2
 returns-2 c =
-    let x = c .before .before .before .before .before .args in
-    sym (date-part (x .file .now) (x .k)) ∙ run-date (x .t) (c .before .before .before .row-of .ensures) (c .before .enum-told2 .given .1) (x .file .now) (x .k)
+    let r = hourly (c .before) in
+    let x = start r .args in
+    sym (date-part (x .file .now) (x .k)) ∙ run-date (x .t) (r .row-of .ensures) (c .before .enum-told2 .given .1) (x .file .now) (x .k)
 
 pub date-due-spec : {M : Type 1} → statement M
 date-due-spec =

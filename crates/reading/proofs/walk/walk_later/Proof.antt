@@ -1,6 +1,6 @@
 -- The lines behind the 200 lines: with each line, what is left to do against what is due is what the whole was.
 use Prim.Native.Nat.{ℕ, _+_, _-_, _≤_, _<_}
-use mathlib.Core.Path.{_≡_, sym, _∙_}
+use mathlib.Core.Path.{_≡_, sym, ap, _∙_}
 use mathlib.Core.List.{List, _++_}
 use native.Mathlib.Omega.{arith}
 use borrow.Author.Needs.{needs}
@@ -12,11 +12,13 @@ use Rattle.layout.specs.declared.RecordType.the-variants.{Facility}
 use Rattle.lines.specs.Lines.{firstLine}
 use Rattle.lines.specs.LineFaults.{dueOf, dueFault}
 use Rattle.lines.specs.declared.Period.{Period}
-use Rattle.reading.specs.Reading.{runOf, runsOf, reportOf}
+use Rattle.reading.specs.Reading.{runOf, runsOf}
 use Rattle.reading.specs.Places.{facilityOf, datesIn, dateDue}
 use Rattle.reading.specs.declared.Reading.the-variants.{Clean}
 use Rattle.reading.proofs.Runs.{dates-length}
-use Rattle.reading.proofs.Walking.{rest-part, Walked, walked-start, walked-type, walked-over, walked-clean, walked-run, walked-missing, walked-found, walked-room, walked-next}
+use Rattle.columns.specs.ColumnsLaws.{part-end}
+use Rattle.reading.proofs.Walking.{Walked, walked-start, walked-type, walked-over, walked-clean, walked-run}
+use Rattle.reading.proofs.Walking.{walked-missing, walked-found, walked-room, walked-next}
 use Rattle.reading.proofs.walk.walk_later.Statement.{statement}
 use Rattle.reading.proofs.walk.walk_later.Tie as tie
 
@@ -43,6 +45,12 @@ Outer = tie.At-loop Inv-loop2 μ-loop2 Inv-loop μ-loop
 abbrev Inner : Type 0
 Inner = tie.At-loop2 Inv-loop2 μ-loop2 Inv-loop μ-loop
 
+abbrev DueLine : Type 0
+DueLine = tie.In-loop2 Inv-loop2 μ-loop2 Inv-loop μ-loop
+
+abbrev Tried : Type 0
+Tried = tie.After-due-fault Inv-loop2 μ-loop2 Inv-loop μ-loop
+
 long : (c : Start) → length (take (lengthOf Facility) (c .args .file .now)) ≡ lengthOf Facility
 long c = length-take-le (lengthOf Facility) (c .args .file .now) (omega arith)
 
@@ -52,10 +60,41 @@ fault-of : (facility : List ℕ) (t : RecordType) {date date′ rest rest′ : L
     f ≡ dueFault facility (dueOf t date) (firstLine rest)
 fault-of facility t e d r = rw (← d, ← r) e
 
--- where the outer loop stands
-abbrev entry : Outer → Start
-entry c = c .before .before .before
+-- the places of the code, each from the next one below it
+abbrev opened : tie.After-facility Inv-loop2 μ-loop2 Inv-loop μ-loop → Start
+opened c = c .before .before
 
+abbrev entry : Outer → Start
+entry c = opened (c .before)
+
+abbrev turn : tie.After-type-at Inv-loop2 μ-loop2 Inv-loop μ-loop → Outer
+turn c = c .before .before
+
+abbrev typed : tie.After-count-of Inv-loop2 μ-loop2 Inv-loop μ-loop → tie.After-type-at Inv-loop2 μ-loop2 Inv-loop μ-loop
+typed c = c .before
+
+abbrev outer : Inner → Outer
+outer c = turn (typed (c .before))
+
+abbrev due : DueLine → Inner
+due c = c .before
+
+abbrev dated : Tried → tie.After-date-due Inv-loop2 μ-loop2 Inv-loop μ-loop
+dated c = c .before .before
+
+abbrev wanted : tie.After-date-due Inv-loop2 μ-loop2 Inv-loop μ-loop → DueLine
+wanted c = c .before .before
+
+abbrev tried : Tried → DueLine
+tried c = wanted (dated c)
+
+abbrev passed : tie.After-line-length Inv-loop2 μ-loop2 Inv-loop μ-loop → Tried
+passed c = c .before .before
+
+abbrev here : tie.After-line-length Inv-loop2 μ-loop2 Inv-loop μ-loop → Inner
+here c = due (tried (passed c))
+
+-- where the outer loop stands
 module _ (c : Outer) where
   abbrev file : List ℕ
   file = entry c .args .file .now
@@ -67,42 +106,27 @@ module _ (c : Outer) where
   hours = entry c .args .n
 
 -- where the inner loop stands
-abbrev outer : Inner → Outer
-outer c = c .before .before .before .before
-
 abbrev type : Inner → RecordType
-type c = c .before .before .type-at .result
+type c = typed (c .before) .type-at .result
 
 abbrev counted : (c : Inner) → c .before .count-of .result ≡ countOf (shape (hours (outer c))) (type c)
 counted c = c .before .count-of .ensures
 
 -- a line of the type is due
-abbrev due : tie.In-loop2 Inv-loop2 μ-loop2 Inv-loop μ-loop → Inner
-due c = c .before
-
-inside : (c : tie.In-loop2 Inv-loop2 μ-loop2 Inv-loop μ-loop) → due c .loop2 .k < countOf (shape (hours (outer (due c)))) (type (due c))
+inside : (c : DueLine) → due c .loop2 .k < countOf (shape (hours (outer (due c)))) (type (due c))
 inside c = omega (arith, counted (due c))
 
 -- it was tried
-abbrev tried : tie.After-due-fault Inv-loop2 μ-loop2 Inv-loop μ-loop → tie.In-loop2 Inv-loop2 μ-loop2 Inv-loop μ-loop
-tried c = c .before .before .before .before
-
-told : (c : tie.After-due-fault Inv-loop2 μ-loop2 Inv-loop μ-loop) →
-    c .due-fault .result
-    ≡ dueFault (facilityOf (file (outer (due (tried c))))) (dueOf (type (due (tried c)))
-    (dateDue (file (outer (due (tried c)))) (type (due (tried c))) (due (tried c) .loop2 .k)))
-    (firstLine (drop (due (tried c) .loop2 .at) (file (outer (due (tried c))))))
+told : (c : Tried) →
+    let i = due (tried c) in
+    let f = file (outer i) in
+    c .due-fault .result ≡ dueFault (facilityOf f) (dueOf (type i) (dateDue f (type i) (i .loop2 .k))) (firstLine (drop (i .loop2 .at) f))
 told c =
-    fault-of (facilityOf (file (outer (due (tried c))))) (type (due (tried c))) (c .due-fault .ensures) (c .before .before .date-due .ensures)
-    (rest-part (due (tried c) .loop2 .at) (file (outer (due (tried c)))))
+    let i = due (tried c) in
+    let f = file (outer i) in
+    fault-of (facilityOf f) (type i) (c .due-fault .ensures) (dated c .date-due .ensures) (part-end (i .loop2 .at) f)
 
 -- it has no fault, and its length is known
-abbrev passed : tie.After-line-length Inv-loop2 μ-loop2 Inv-loop μ-loop → tie.After-due-fault Inv-loop2 μ-loop2 Inv-loop μ-loop
-passed c = c .before .before
-
-abbrev here : tie.After-line-length Inv-loop2 μ-loop2 Inv-loop μ-loop → Inner
-here c = due (tried (passed c))
-
 room : (c : tie.After-line-length Inv-loop2 μ-loop2 Inv-loop μ-loop) → here c .loop2 .at + c .line-length .result ≤ length (file (outer (here c)))
 room c =
     let l = here c .loop2 in
@@ -115,7 +139,7 @@ room c =
     omega (arith, r, c .line-length .ensures .0)
 
 slice-aggregate-facility : tie.Need-slice-aggregate-facility Inv-loop2 μ-loop2 Inv-loop μ-loop
-slice-aggregate-facility c = sym (length-take-le (lengthOf Facility) (c .before .before .args .file .now) (omega arith))
+slice-aggregate-facility c = sym (long (opened c))
 
 mul-at : tie.Need-mul-at Inv-loop2 μ-loop2 Inv-loop μ-loop
 mul-at c = omega arith
@@ -131,7 +155,7 @@ add-place c = search needs
 
 loop-holds : tie.Need-loop-holds Inv-loop2 μ-loop2 Inv-loop μ-loop
 loop-holds c =
-    let x = c .before .before in
+    let x = opened c in
     (omega arith, walked-start (x .args .file .now) (x .args .period) (x .args .n) (x .pre))
 
 type-at-requires : tie.Need-type-at-requires Inv-loop2 μ-loop2 Inv-loop μ-loop
@@ -142,22 +166,23 @@ count-of-requires c κs = search needs
 
 loop2-holds : tie.Need-loop2-holds Inv-loop2 μ-loop2 Inv-loop μ-loop
 loop2-holds c =
-    let o = c .before .before .before in
+    let t = typed c in
+    let o = turn t in
     let l = o .loop in (
       omega arith,
-      walked-type (file o) (period o) (hours o) (l .at) (l .line) (l .place) (c .before .type-at .result) (c .before .before .loop-test .taken)
-          (c .before .type-at .ensures) (l .inv .1),
+      walked-type (file o) (period o) (hours o) (l .at) (l .line) (l .place) (t .type-at .result) (t .before .loop-test .taken)
+          (t .type-at .ensures) (l .inv .1),
     )
 
-refused-requires : tie.Need-refused-requires Inv-loop2 μ-loop2 Inv-loop μ-loop
-refused-requires c κs = search needs
+stopped-requires : tie.Need-stopped-requires Inv-loop2 μ-loop2 Inv-loop μ-loop
+stopped-requires c κs = search needs
 
 returns : tie.Need-returns Inv-loop2 μ-loop2 Inv-loop μ-loop
 returns c =
     let i = c .before .before in
     let l = due i .loop2 in
     let o = outer (due i) in
-    c .refused .ensures ∙ walked-missing (file o) (period o) (hours o) (l .at) (l .line) (type (due i)) (l .k) _ (l .inv .1) (inside i) (c .before .if1 .taken)
+    c .stopped .ensures ∙ walked-missing (file o) (period o) (hours o) (l .at) (l .line) (type (due i)) (l .k) _ (l .inv .1) (inside i) (c .before .if1 .taken)
 
 date-due-requires : tie.Need-date-due-requires Inv-loop2 μ-loop2 Inv-loop μ-loop
 date-due-requires c κs = (entry (outer (due (c .before))) .pre, inside (c .before))
@@ -172,17 +197,17 @@ part-due-fault-end : tie.Need-part-due-fault-end Inv-loop2 μ-loop2 Inv-loop μ-
 part-due-fault-end c = omega arith
 
 due-fault-requires : tie.Need-due-fault-requires Inv-loop2 μ-loop2 Inv-loop μ-loop
-due-fault-requires c κs = omega (arith, long (entry (outer (due (c .before .before .before)))))
+due-fault-requires c κs = omega (arith, long (entry (outer (due (wanted (c .before))))))
 
-refused-requires-2 : tie.Need-refused-requires-2 Inv-loop2 μ-loop2 Inv-loop μ-loop
-refused-requires-2 c κs = search needs
+stopped-requires-2 : tie.Need-stopped-requires-2 Inv-loop2 μ-loop2 Inv-loop μ-loop
+stopped-requires-2 c κs = search needs
 
 returns-2 : tie.Need-returns-2 Inv-loop2 μ-loop2 Inv-loop μ-loop
 returns-2 c =
     let d = c .before .before in
     let l = due (tried d) .loop2 in
     let o = outer (due (tried d)) in
-    c .refused2 .ensures
+    c .stopped2 .ensures
     ∙ walked-found (file o) (period o) (hours o) (l .at) (l .line) (type (due (tried d))) (l .k) _ (l .inv .1) (inside (tried d)) (omega arith)
     (d .due-fault .result) (told d) (c .before .if2 .taken)
 
@@ -230,25 +255,21 @@ loop-again c =
     let o = outer i in
     (omega arith, walked-run (file o) (period o) (hours o) (l .at) (l .line) (type i) (l .k) _ (l .inv .1) (omega (arith, counted i)))
 
-refused-requires-3 : tie.Need-refused-requires-3 Inv-loop2 μ-loop2 Inv-loop μ-loop
-refused-requires-3 c κs = search needs
+stopped-requires-3 : tie.Need-stopped-requires-3 Inv-loop2 μ-loop2 Inv-loop μ-loop
+stopped-requires-3 c κs = search needs
 
 returns-3 : tie.Need-returns-3 Inv-loop2 μ-loop2 Inv-loop μ-loop
 returns-3 c =
     let o = c .before .before .before in
     let l = o .loop in
-    c .refused3 .ensures ∙ walked-over (file o) (period o) (hours o) (l .at) (l .line) (l .place) (omega arith) (omega arith) (l .inv .1)
+    c .stopped3 .ensures ∙ walked-over (file o) (period o) (hours o) (l .at) (l .line) (l .place) (omega arith) (omega arith) (l .inv .1)
 
 returns-4 : tie.Need-returns-4 Inv-loop2 μ-loop2 Inv-loop μ-loop
 returns-4 c =
     let o = c .before .before in
     let l = o .loop in
-    let e : Clean (record {
-      period =
-          period o;
-      shape = shape (hours o);
-    }) ≡ Clean (reportOf (period o) (datesIn (file o) (hours o))) = rw (dates-length (file o) (hours o)) in
-    e ∙ walked-clean (file o) (period o) (hours o) (l .at) (l .line) (l .place) (omega arith) (omega arith) (l .inv .1)
+    ap (λ (n : ℕ). Clean (record { period = period o; shape = shape n })) (sym (dates-length (file o) (hours o)))
+    ∙ walked-clean (file o) (period o) (hours o) (l .at) (l .line) (l .place) (omega arith) (omega arith) (l .inv .1)
 
 pub walk-later-spec : {M : Type 1} → statement M
 walk-later-spec =
@@ -267,14 +288,14 @@ walk-later-spec =
     type-at-requires
     count-of-requires
     loop2-holds
-    refused-requires
+    stopped-requires
     returns
     date-due-requires
     sub-due-fault
     part-due-fault-start
     part-due-fault-end
     due-fault-requires
-    refused-requires-2
+    stopped-requires-2
     returns-2
     line-length-requires
     add-at-2
@@ -286,6 +307,6 @@ walk-later-spec =
     add-place-2
     loop-less
     loop-again
-    refused-requires-3
+    stopped-requires-3
     returns-3
     returns-4)

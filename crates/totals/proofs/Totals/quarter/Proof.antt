@@ -1,43 +1,58 @@
--- `totals::Totals::quarter` meets its contract: each total is a fraction of its definition, reduced.
--- Assumes nothing.
+-- Each total is a fraction of its definition, reduced.
+use Prim.Native.Nat.{ℕ, _≤_}
 use native.Mathlib.Omega.{arith}
+use lib.ListN.{getD}
+use Rattle.totals.specs.Totals.{mostSum}
 use Rattle.totals.proofs.Sums.{sum-bound, quarter-at}
 use borrow.Author.Needs.{needs}
 use Rattle.totals.proofs.Totals.quarter.Statement.{statement}
 use Rattle.totals.proofs.Totals.quarter.Tie as tie
 
+-- the places of the code, each from the next one below it
+abbrev start : tie.After-sums → tie.Start
+start c = c .before
+
+abbrev read : tie.After-half-up → tie.After-sums
+read c = c .before
+
+abbrev so2 : tie.After-half-up2 → tie.After-half-up
+so2 c = c .before
+
+abbrev co2 : tie.After-half-up3 → tie.After-half-up2
+co2 c = c .before
+
+bound : (c : tie.After-sums) (i : ℕ) → getD (start c .args .self .sums) i 0 ≤ mostSum
+bound c i = sum-bound (start c .args .self) i (start c .pre)
+
 array-read-half-up : tie.Need-array-read-half-up
 array-read-half-up c = search needs
 
 half-up-requires : tie.Need-half-up-requires
-half-up-requires c κs = omega (arith, sum-bound (c .before .args .self) 0 (c .before .pre))
+half-up-requires c κs = omega (arith, bound c 0)
 
 array-read-half-up-2 : tie.Need-array-read-half-up-2
 array-read-half-up-2 c = search needs
 
 half-up-requires-2 : tie.Need-half-up-requires-2
-half-up-requires-2 c κs = omega (arith, sum-bound (c .before .before .args .self) 1 (c .before .before .pre))
+half-up-requires-2 c κs = omega (arith, bound (read c) 1)
 
 array-read-half-up-3 : tie.Need-array-read-half-up-3
 array-read-half-up-3 c = search needs
 
 half-up-requires-3 : tie.Need-half-up-requires-3
-half-up-requires-3 c κs = omega (arith, sum-bound (c .before .before .before .args .self) 2 (c .before .before .before .pre))
+half-up-requires-3 c κs = omega (arith, bound (read (so2 c)) 2)
 
 array-read-mean : tie.Need-array-read-mean
 array-read-mean c = search needs
 
 mean-requires : tie.Need-mean-requires
-mean-requires c κs = (sum-bound (c .before .before .before .before .args .self) 3 (c .before .before .before .before .pre), c .before .before .before .before .pre .hours)
+mean-requires c κs = let r = read (so2 (co2 c)) in (bound r 3, start r .pre .hours)
 
 returns : tie.Need-returns
 returns c =
-    quarter-at
-    (c .before .before .before .before .before .args .self)
-    (c .before .before .before .half-up .ensures)
-    (c .before .before .half-up2 .ensures)
-    (c .before .half-up3 .ensures)
-    (c .mean .ensures)
+    let h = c .before in
+    let t = start (read (so2 (co2 h))) .args .self in
+    quarter-at t (so2 (co2 h) .half-up .ensures) (co2 h .half-up2 .ensures) (h .half-up3 .ensures) (c .mean .ensures)
 
 pub quarter-spec : {M : Type 1} → statement M
 quarter-spec =

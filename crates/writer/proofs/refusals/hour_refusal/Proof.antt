@@ -11,41 +11,46 @@ use Rattle.writer.specs.OnePass.{valuesRefusal, hourRefusal}
 use Rattle.writer.proofs.refusals.hour_refusal.Statement.{statement}
 use Rattle.writer.proofs.refusals.hour_refusal.Tie as tie
 
-readings-told : (h : SheetHour) → readingsHold h ≡ false → 32 ≡ hourRefusal h
-unfolding hourRefusal
-readings-told h e = rw e
+-- the places of the code, each from the next one below it
+abbrev read : tie.Else1 → tie.After-readings-hold
+read c = c .before
 
-figures-told : (h : SheetHour) → readingsHold h ≡ true → (b : Bool) → figuresFit h ≡ b → valuesRefusal true b ≡ hourRefusal h
+abbrev rounded : tie.After-figures-hold → tie.After-rounded-figures
+rounded c = c .before
+
+readings-refused : (h : SheetHour) → readingsHold h ≡ false → 32 ≡ hourRefusal h
 unfolding hourRefusal
-figures-told h e b f = rw (e, f)
+readings-refused h e = rw e
+
+figures-decide : (h : SheetHour) → readingsHold h ≡ true → (b : Bool) → figuresFit h ≡ b → valuesRefusal true b ≡ hourRefusal h
+unfolding hourRefusal
+figures-decide h e b f = rw (e, f)
+
+-- the readings hold
+held : (c : tie.Else1) → readingsHold (read c .before .args .h) ≡ true
+held c = sym (read c .readings-hold .ensures) ∙ not-false _ (c .if1 .left)
+
+-- what was found of the figures
+found : (c : tie.After-figures-hold) → figuresFit (read (rounded c .before) .before .args .h) ≡ c .figures-hold .result
+found c = sym (ap figuresHold (rounded c .rounded-figures .ensures)) ∙ sym (c .figures-hold .ensures)
 
 readings-hold-requires : tie.Need-readings-hold-requires
 readings-hold-requires c κs = search needs
 
 returns : tie.Need-returns
-returns c =
-    let r = c .before .readings-hold in
-    readings-told (c .before .before .args .h) (sym (r .ensures) ∙ not-true _ (c .if1 .taken))
+returns c = readings-refused (c .before .before .args .h) (sym (c .before .readings-hold .ensures) ∙ not-true _ (c .if1 .taken))
 
 rounded-figures-requires : tie.Need-rounded-figures-requires
-rounded-figures-requires c κs =
-    let r = c .before .readings-hold in
-    readings-true (c .before .before .args .h) (sym (r .ensures) ∙ not-false _ (c .if1 .left)) .1
+rounded-figures-requires c κs = readings-true _ (held c) .1
 
 figures-hold-requires : tie.Need-figures-hold-requires
 figures-hold-requires c κs = search needs
 
 returns-2 : tie.Need-returns-2
-returns-2 c =
-    let i = c .before .before .before in
-    let f = sym (ap figuresHold (c .before .before .rounded-figures .ensures)) ∙ sym (c .before .figures-hold .ensures) in
-    figures-told (i .before .before .args .h) (sym (i .before .readings-hold .ensures) ∙ not-false _ (i .if1 .left)) false (f ∙ not-true _ (c .if2 .taken))
+returns-2 c = figures-decide _ (held (rounded (c .before) .before)) false (found (c .before) ∙ not-true _ (c .if2 .taken))
 
 returns-3 : tie.Need-returns-3
-returns-3 c =
-    let i = c .before .before .before in
-    let f = sym (ap figuresHold (c .before .before .rounded-figures .ensures)) ∙ sym (c .before .figures-hold .ensures) in
-    figures-told (i .before .before .args .h) (sym (i .before .readings-hold .ensures) ∙ not-false _ (i .if1 .left)) true (f ∙ not-false _ (c .if2 .left))
+returns-3 c = figures-decide _ (held (rounded (c .before) .before)) true (found (c .before) ∙ not-false _ (c .if2 .left))
 
 pub hour-refusal-spec : {M : Type 1} → statement M
 hour-refusal-spec =

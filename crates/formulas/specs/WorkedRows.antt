@@ -1,9 +1,9 @@
 -- 01's "Hours to try", the rows marked ◆: figures that pass and figures just outside, in one table and one fact.
--- Assumes nothing.
 use mathlib.Core.Path.{_≡_, refl}
 use mathlib.Core.Bool.{Bool, true, not, _&&_}
 use mathlib.Core.List.{List, [], _∷_}
 use Prim.Native.Nat.{ℕ}
+use Rattle.exact.specs.Fraction.{over}
 use Rattle.exact.specs.Behind.{meets}
 use Rattle.formulas.specs.Formulas.{passesTest}
 use Rattle.formulas.specs.declared.hour.Hour.{Hour}
@@ -11,7 +11,7 @@ use Rattle.formulas.specs.declared.hour.Quantity.{Quantity}
 use Rattle.formulas.specs.declared.hour.Quantity.the-variants.{Heat, So2, Nox, Co2}
 
 -- a quantity, the readings (tenths of ppm, ppm and percent; scfh; tenths of Fc), figures that pass, figures that do not
-pub record Row : Type 0 where
+pub record WorkedRow : Type 0 where
   pub quantity : Quantity
   pub so2 : ℕ
   pub nox : ℕ
@@ -22,26 +22,26 @@ pub record Row : Type 0 where
   pub outside : List ℕ
 
 -- the row's hour with a figure, whichever quantity it is of
-abbrev hourWith : Row → ℕ → Hour
+abbrev hourWith : WorkedRow → ℕ → Hour
 hourWith r v = record {
   time = 100;
   readings = record { so2 = r .so2; nox = r .nox; co2 = r .co2; flow = r .flow; fc = r .fc };
   figures = record { heat = v; so2 = v; nox = v; co2 = v };
 }
 
-abbrev passes : Row → ℕ → Bool
+abbrev passes : WorkedRow → ℕ → Bool
 passes r v = passesTest (r .quantity) (hourWith r v)
 
-abbrev all : (ℕ → Bool) → List ℕ → Bool
-all f [] = true
-all f (v ∷ vs) = f v && all f vs
+abbrev everyFigure : (ℕ → Bool) → List ℕ → Bool
+everyFigure f [] = true
+everyFigure f (v ∷ vs) = f v && everyFigure f vs
 
-abbrev pub holds : List Row → Bool
+abbrev pub holds : List WorkedRow → Bool
 holds [] = true
-holds (r ∷ rs) = all (passes r) (r .pass) && all (λ v. not (passes r v)) (r .outside) && holds rs
+holds (r ∷ rs) = everyFigure (passes r) (r .pass) && everyFigure (λ v. not (passes r v)) (r .outside) && holds rs
 
-pub tried : List Row
-tried =
+pub workedRows : List WorkedRow
+workedRows =
     record { quantity = So2; so2 = 2500; nox = 0; co2 = 1; flow = 20_000_000; fc = 5000; pass = 8298 ∷ 8302 ∷ []; outside = 8297 ∷ 8303 ∷ [] }
     ∷ record { quantity = Co2; so2 = 0; nox = 0; co2 = 120; flow = 20_000_000; fc = 5000; pass = 1362 ∷ 1374 ∷ []; outside = 1361 ∷ 1375 ∷ [] }
     ∷ record { quantity = Heat; so2 = 0; nox = 0; co2 = 120; flow = 20_000_000; fc = 18_000; pass = 13_278 ∷ 13_389 ∷ []; outside = 13_277 ∷ 13_390 ∷ [] }
@@ -51,6 +51,6 @@ tried =
     ∷ record { quantity = So2; so2 = 99_999; nox = 0; co2 = 1; flow = 1_000_000; fc = 5000; pass = 16_600 ∷ []; outside = 16_599 ∷ 16_601 ∷ [] }
     ∷ []
 
-pub tried-holds : holds tried ≡ true
-unfolding tried passesTest meets
-tried-holds = refl
+pub worked-rows-hold : holds workedRows ≡ true
+unfolding workedRows passesTest over meets
+worked-rows-hold = refl

@@ -1,7 +1,7 @@
--- `sheet::value_at` meets its contract.
+-- `sheet::word_value` meets its contract.
 use borrow.Author.Needs.{needs}
-use Rattle.sheet.proofs.value_at.Statement.{statement}
-use Rattle.sheet.proofs.value_at.Tie as tie
+use Rattle.sheet.proofs.word_value.Statement.{statement}
+use Rattle.sheet.proofs.word_value.Tie as tie
 
 mul-word-apart : tie.Need-mul-word-apart
 mul-word-apart c = search needs
@@ -15,6 +15,6 @@ word-apart-requires c κs = search needs
 returns : tie.Need-returns
 returns c = cc
 
-pub value-at-spec : {M : Type 1} → statement M
-value-at-spec =
+pub word-value-spec : {M : Type 1} → statement M
+word-value-spec =
     tie.close (tie.spec mul-word-apart shared-slice-read-word-apart word-apart-requires returns)

@@ -1,0 +1,28 @@
+-- A fault found before stands; else the number stands where the totals differ.
+use mathlib.Core.Path.{_≡_, refl, sym, ap₂}
+use mathlib.Core.Bool.{Bool}
+use Prim.Native.Nat.{ℕ, zero, suc}
+use borrow.Author.Tests.{eq-eqb, ne-eqb}
+use Rattle.lines.specs.LineFaults.{_orElse_, unless}
+use Rattle.checker.proofs.first_fault.Statement.{statement}
+use Rattle.checker.proofs.first_fault.Tie as tie
+
+before : (found other : ℕ) → (found ≡ 0 → ⊥) → found ≡ found orElse other
+before zero other h = absurd (h refl)
+before (suc found) other h = refl
+
+returns : tie.Need-returns
+returns c = let a = c .before .args in before (a .found) _ (c .if1 .taken)
+
+returns-2 : tie.Need-returns-2
+returns-2 c =
+    let a = c .before .before .args in
+    sym (ap₂ (λ (n : ℕ) (t : Bool). n orElse unless t (a .number)) (c .before .if1 .left) (ne-eqb (a .formed) (a .stated) (c .if2 .taken)))
+
+returns-3 : tie.Need-returns-3
+returns-3 c =
+    let a = c .before .before .args in
+    sym (ap₂ (λ (n : ℕ) (t : Bool). n orElse unless t (a .number)) (c .before .if1 .left) (eq-eqb (a .formed) (a .stated) (c .if2 .left)))
+
+pub first-fault-spec : {M : Type 1} → statement M
+first-fault-spec = tie.close (tie.spec returns returns-2 returns-3)

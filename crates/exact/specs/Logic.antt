@@ -1,0 +1,58 @@
+-- Small logic for the crates above: two tests joined, lists by the rank of their members, a statement of every member.
+use mathlib.Core.Path.{_≡_, refl, ap}
+use mathlib.Core.Bool.{Bool, true, false, _&&_, true-and, false-and, false≢true}
+use mathlib.Core.List.{List, [], _∷_, map}
+use Prim.Native.Nat.{ℕ, zero, suc, _+_, _-_, _≤_, _<_}
+use native.Mathlib.Nat.{le-of-suc-le-suc, not-suc-le-zero}
+use native.Mathlib.Omega.{arith}
+use native.Mathlib.Numerals.{add-one}
+use lib.ListN.{length, getD}
+
+pub both : (p q : Bool) → (p && q) ≡ true → (p ≡ true) × (q ≡ true)
+both true q e = (refl, rw true-and at e)
+both false q e = absurd (false≢true (rw false-and at e))
+
+-- those of rank k, k + 1, ..: so many
+unfoldable pub ranked : {A : Type 0} → (ℕ → A) → (k left : ℕ) → List A
+ranked f k zero = []
+ranked f k (suc left) = f k ∷ ranked f (suc k) left
+
+module _ {A : Type 0} (f : ℕ → A) where
+  pub ranked-length : (k left : ℕ) → length (ranked f k left) ≡ left
+  unfolding ranked
+  ranked-length k zero = refl
+  ranked-length k (suc left) = ap suc (ranked-length (suc k) left)
+
+  -- what is left of n from rank k on: the one of rank k and what is left behind it, or nothing
+  pub ranked-next : (n k : ℕ) → k < n → ranked f k (n - k) ≡ f k ∷ ranked f (k + 1) (n - (k + 1))
+  unfolding ranked
+  ranked-next n k h = let e : n - k ≡ suc (n - (k + 1)) = omega arith in rw (e, add-one k)
+
+  pub ranked-end : (n k : ℕ) → n ≤ k → ranked f k (n - k) ≡ []
+  unfolding ranked
+  ranked-end n k h = let e : n - k ≡ 0 = omega arith in rw e
+
+  pub ranked-whole : (n : ℕ) → ranked f 0 (n - 0) ≡ ranked f 0 n
+  ranked-whole n = let e : n - 0 ≡ n = omega arith in rw e
+
+-- a statement of every member of a list
+abbrev pub All : {A : Type 0} → (A → Type 0) → List A → Type 0
+All P [] = Unit {0}
+All P (x ∷ xs) = P x × All P xs
+
+pub ranked-all : {A : Type 0} (P : A → Type 0) (f : ℕ → A) (n k left : ℕ) → ((j : ℕ) → j < n → P (f j)) → k + left ≤ n → All P (ranked f k left)
+unfolding ranked
+ranked-all P f n k zero w h = tt
+ranked-all P f n k (suc left) w h = (w k (omega arith), ranked-all P f n (suc k) left w (omega arith))
+
+-- the member of rank k
+pub all-at : {A : Type 0} (P : A → Type 0) (xs : List A) (none : A) (k : ℕ) → All P xs → k < length xs → P (getD xs k none)
+all-at P [] none k a h = absurd (not-suc-le-zero h)
+all-at P (x ∷ xs) none zero a h = a .0
+all-at P (x ∷ xs) none (suc k) a h = all-at P xs none k (a .1) (le-of-suc-le-suc h)
+
+pub mapped-at : {A : Type 0} {B : Type 0} (f : A → B) (xs : List A) (none : A) (other : B) (k : ℕ) → k < length xs →
+    getD (map f xs) k other ≡ f (getD xs k none)
+mapped-at f [] none other k h = absurd (not-suc-le-zero h)
+mapped-at f (x ∷ xs) none other zero h = refl
+mapped-at f (x ∷ xs) none other (suc k) h = mapped-at f xs none other k (le-of-suc-le-suc h)
