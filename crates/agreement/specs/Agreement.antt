@@ -25,7 +25,7 @@ use Rattle.writer.specs.Refusals.{refusalOf}
 use Rattle.writer.specs.RefusalLaws.{not-refused}
 use Rattle.writer.specs.Writable.{HourWritable, Writable}
 use Rattle.writer.specs.Written.{report, answered, buffered}
-use Rattle.writer.specs.ReportLaws.{report-length}
+use Rattle.writer.specs.ReportLaws.{written-length}
 use Rattle.writer.specs.declared.Written.the-variants.{Length, Refused}
 use Rattle.agreement.specs.ReportLaws.{AllWritable, recorded-length, formed, own, report-clean}
 use Rattle.agreement.specs.ReadBackLaws.{hours-back, totals-back}
@@ -83,7 +83,7 @@ module _ (year quarter : ℕ) (name sheet : List ℕ) (named : length name ≡ s
       go zero z v =
           let l : reportLength (shapeOf sheet) ≡ n = cc in
           let file = report year quarter name (sheetHours sheet) in
-          let k : length file ≡ n = report-length year quarter name (sheetHours sheet) named (shapeOf sheet) (sheet-hours-count sheet) ∙ l in
+          let k : length file ≡ n = written-length year quarter name (sheetHours sheet) named (shapeOf sheet) (sheet-hours-count sheet) ∙ l in
           let t : take n (buffered year quarter name sheet buffer) ≡ file = rw (z, buffered) (take-at file (drop (reportLength (shapeOf sheet)) buffer) n k) in
           (ap numbersOf (ap checked t ∙ report-accepted (not-refused year quarter name sheet (length buffer) z .0)), formed-hours)
       go (suc f) z v = absurd (let y : _≡_ {A = ℕ} 0 1 = cc in omega arith)

@@ -1,13 +1,12 @@
 -- Laws of tests over lists of bytes.
-use Prim.Native.Nat.{ℕ, zero, suc, _<_, _≤_}
+use Prim.Native.Nat.{ℕ, zero, suc, _≤_}
 use mathlib.Core.Path.{_≡_, refl}
 use mathlib.Core.Logic.{_↔_}
 use mathlib.Core.List.{List, [], _∷_, _++_}
 use mathlib.Core.Bool.{Bool, true, false, _&&_}
 use native.Mathlib.Omega.{arith}
-use native.Mathlib.Nat.{le-of-suc-le-suc, not-suc-le-zero}
 use lib.Dec.{eqb, leb}
-use lib.ListN.{length, take, drop, getD}
+use lib.ListN.{take, drop}
 use borrow.Author.Tests.{eq-eqb, eqb-true, le-leb, leb-true}
 use Rattle.columns.specs.Bytes.{isDigit, isPrintable, all, same}
 
@@ -70,12 +69,6 @@ module _ (p : ℕ → Bool) where
   all-drop zero l h = h
   all-drop (suc n) [] h = h
   all-drop (suc n) (x ∷ xs) h = all-drop n xs (all-tail x xs h)
-
-  -- at every place
-  pub all-at : (l : List ℕ) (i : ℕ) → all p l ≡ true → i < length l → p (getD l i 0) ≡ true
-  all-at [] i h k = absurd (not-suc-le-zero k)
-  all-at (x ∷ xs) zero h k = all-head x xs h
-  all-at (x ∷ xs) (suc i) h k = all-at xs i (all-tail x xs h) (le-of-suc-le-suc k)
 
 -- a weaker test
 pub all-weaken : (p q : ℕ → Bool) → ((b : ℕ) → p b ≡ true → q b ≡ true) → (l : List ℕ) → all p l ≡ true → all q l ≡ true

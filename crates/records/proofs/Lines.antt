@@ -5,7 +5,7 @@ use mathlib.Core.List.{List, [], _∷_}
 use native.Mathlib.Omega.{arith}
 use native.Mathlib.Nat.{add-sub-cancel-left}
 use native.Mathlib.Numerals.{add-one}
-use lib.ListN.{length, take, drop, set, getD, length-drop, drop-of-length-le}
+use lib.ListN.{length, take, drop, set, getD, drop-of-length-le}
 use lib.Seq.{length-take-le, drop-cons, drop-drop, set-split, getD-take}
 use borrow.Rule.Slice.PartMut.{putMid}
 use Rattle.columns.specs.Columns.{put}
@@ -41,9 +41,6 @@ module _ (at long : ℕ) (l bytes : List ℕ) (e : length bytes ≡ long) (room 
   part-put =
       let a : at + 1 - 1 ≡ at = omega arith in
       rw (add-sub-cancel-left at long, a, ← e, drop-drop)
-
-  pub part-length : length (take (at + long - at) (drop at l)) ≡ long
-  part-length = rw (add-sub-cancel-left at long) (length-take-le long (drop at l) (rw length-drop (omega arith)))
 
   byte-put : (m : List ℕ) → length m ≡ length l → set m (at + long) 10 ≡ put (at + 1 + length bytes) (10 ∷ []) m
   unfolding put

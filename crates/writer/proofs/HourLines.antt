@@ -31,7 +31,7 @@ use Rattle.writer.specs.Written.{hourRecord, writtenRecords, report}
 use Rattle.writer.specs.HourLines.{hourLines, hoursLines}
 use Rattle.records.specs.RecordLaws.{facility-length, totals-length}
 use Rattle.writer.specs.LineLaws.{hour-length}
-use Rattle.writer.specs.ReportLaws.{ended-length, hour-records, behindRecord, record-place, report-length}
+use Rattle.writer.specs.ReportLaws.{ended-length, hour-records, behindRecord, record-place, written-length}
 use Rattle.writer.proofs.Puts.{Own, Right, unknown, put-fills, put-keeps}
 
 drop-next : {A : Type 0} (xs : List A) (k : ℕ) (a : A) (rest : List A) → drop k xs ≡ a ∷ rest → drop (k + 1) xs ≡ rest
@@ -46,7 +46,7 @@ module _ (year quarter : ℕ) (name : List ℕ) (named : length name ≡ stackWi
   whole = put 1 text before
 
   text-long : length text ≡ reportLength s
-  text-long = report-length year quarter name hours named s count
+  text-long = written-length year quarter name hours named s count
 
   whole-long : length whole ≡ length before
   whole-long = put-length 1 text before (omega (arith, text-long))

@@ -100,9 +100,9 @@ module _ (year quarter : ℕ) (name : List ℕ) (hours : List SheetHour) where
           lined-length (lengthOf t) (writtenRecords year quarter name hours t) (records-length t)
           ∙ ap (λ (n : ℕ). (lengthOf t + 1) * n) (records-count t)
 
-      pub report-length : length (report year quarter name hours) ≡ reportLength s
+      pub written-length : length (report year quarter name hours) ≡ reportLength s
       unfolding report reportLength
-      report-length = runs-length (λ t. lined (writtenRecords year quarter name hours t)) s run-length order
+      written-length = runs-length (λ t. lined (writtenRecords year quarter name hours t)) s run-length order
 
       -- from the k-th record of a type on
       pub records-place : (t : RecordType) (k : ℕ) → k ≤ countOf s t
