@@ -1,5 +1,5 @@
 -- What holds of the hours and the dates of a quarter: how many hours there are, that hours and dates are each other's inverse,
--- and what bounds them. Assumes nothing.
+-- and what bounds them.
 use Prim.Native.Nat.{ℕ, _+_, _*_, _-_, _/_, _%_, _≤_, _<_}
 use mathlib.Core.Bool.{Bool, true, false, cond, _&&_, and-eq-true-iff}
 use mathlib.Core.Path.{_≡_, refl, ap, sym, subst⁻¹, _∙_}

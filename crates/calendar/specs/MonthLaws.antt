@@ -1,5 +1,4 @@
 -- What holds of the three months of a quarter: their lengths, where each starts, and which of them holds a day.
--- Assumes nothing.
 use Prim.Native.Nat.{ℕ, _+_, _≤_, _<_}
 use mathlib.Core.Bool.{Bool, true, false, cond}
 use mathlib.Core.Path.{_≡_, subst⁻¹}

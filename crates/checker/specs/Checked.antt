@@ -31,7 +31,7 @@ stated number amount = record { number = number; amount = amount }
 abbrev pub statedTotals : List Stated
 statedTotals = stated 21 (λ r. r .so2) ∷ stated 22 (λ r. r .co2) ∷ stated 23 (λ r. r .heat) ∷ stated 24 (λ r. r .nox) ∷ []
 
--- what an answer says, as 01 has it: n and the totals, or number and line
+-- what an answer says, as the paper has it: n and the totals, or number and line
 abbrev pub acceptance : Quarter → List ℕ
 acceptance r = r .hours ∷ map (λ (t : Stated). t .amount r) statedTotals
 

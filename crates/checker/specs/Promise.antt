@@ -1,6 +1,6 @@
 -- What the check promises of its answer to a file, in the words of the paper: every honest report is accepted; behind every accepted
 -- file stand unrounded readings; whichever they are, the exact amounts lie within the stated bounds of the reported ones; and a
--- figure is refused only where nothing unrounded lies behind it. PromiseLaws.antt proves it. Assumes nothing.
+-- figure is refused only where nothing unrounded lies behind it. PromiseLaws.antt proves it.
 use Prim.Native.Nat.{ℕ, _<_}
 use mathlib.Core.Path.{_≡_}
 use mathlib.Core.List.{List, [], _∷_}
@@ -36,7 +36,7 @@ SetsBehind [] (s ∷ ss) = ⊥
 SetsBehind (h ∷ hs) [] = ⊥
 SetsBehind (h ∷ hs) (s ∷ ss) = ((q : Quantity) → LiesBehind q h (pairOf q s)) × SetsBehind hs ss
 
--- "honestly rounded from" (01)
+-- "honestly rounded from" (the paper)
 pub record HonestlyRounded (file : List ℕ) (sets : List Unrounded) : Type 0 where
   pub report : Report
   pub clean : readOf file ≡ Clean report

@@ -1,5 +1,4 @@
 -- The answer's numbers, stored one by one at the front of a lent slice.
--- Assumes nothing.
 use Prim.Native.Nat.{ℕ, _≤_, _<_}
 use mathlib.Core.Path.{_≡_, refl}
 use mathlib.Core.List.{List, [], _∷_}

@@ -1,5 +1,4 @@
 -- How much of the buffer the program judges.
--- Assumes nothing.
 use Prim.Native.Nat.{ℕ}
 use Rattle.edr_check.specs.declared.Input.{Input}
 use Rattle.edr_check.specs.declared.Input.the-variants.{Report, TooLong, Unreadable}

@@ -1,6 +1,6 @@
 -- What lies behind a figure: values of two spans whose product, or whose quotient, times a factor lies in a target range.
 -- A target is any half-open range; a figure's own span is one, and so is what two figures' spans have in common.
--- Definitions only; ProductLaw.antt and QuotientLaw.antt prove the tests exact. Assumes nothing.
+-- Definitions only; ProductLaw.antt and QuotientLaw.antt prove the tests exact.
 use mathlib.Core.Bool.{Bool, _&&_}
 use Prim.Native.Nat.{ℕ, _*_, _<_}
 use lib.Dec.{ltb}

@@ -1,5 +1,4 @@
 -- A reading between given ends that keeps a value inside given ends: the choice that the product law and the quotient law both make.
--- Assumes nothing.
 use Prim.Native.Nat.{ℕ, _+_, _*_, _≤_, _<_, max}
 use native.Mathlib.Nat.{mul-pos, mul-le-mul-left, mul-lt-mul-of-pos-left, mul-lt-mul-of-pos-right, lt-of-mul-lt-mul-left, le-max-left, le-max-right}
 use native.Mathlib.Decide.{decLt}

@@ -1,5 +1,5 @@
 -- Fractions: a whole number over a whole number of at least 1. Order by cross-multiplication, sum, product, quotient.
--- Definitions only; FractionLaws.antt has what is proved of them. Assumes nothing.
+-- Definitions only; FractionLaws.antt has what is proved of them.
 use mathlib.Core.List.{List, [], _∷_}
 use Prim.Native.Nat.{ℕ, zero, suc, _+_, _*_, _≤_, _<_}
 use native.Mathlib.Nat.{mul-pos}

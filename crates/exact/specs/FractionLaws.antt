@@ -1,5 +1,4 @@
 -- Laws of fractions. Each is `omega` over monomials, with every hypothesis handed over multiplied by what it lacks.
--- Assumes nothing.
 use mathlib.Core.Path.{_≡_, refl}
 use Prim.Native.Nat.{ℕ, zero, suc, _*_, _≤_, _<_}
 use native.Mathlib.Nat.{mul-le-mul-left, mul-lt-mul-of-pos-left, mul-lt-mul-of-pos-right, mul-le-mul, mul-pos, le-of-lt}

@@ -1,5 +1,4 @@
 -- The product law: two values of two spans have c·x·y in a target range exactly where the range meets [c·low·low, c·high·high).
--- Assumes nothing.
 use mathlib.Core.Path.{_≡_}
 use mathlib.Core.Bool.{true}
 use mathlib.Core.Logic.{_↔_, Iff·trans}

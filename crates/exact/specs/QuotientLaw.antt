@@ -1,6 +1,6 @@
 -- The quotient law: a value of a span and a divisor have c·x/z in a target range exactly where the range meets the values from
 -- c·low/high to c·high/low. It is the same whichever end of the divisors is allowed, so it serves a recorded divisor and one
--- that falls with its reading. Assumes nothing.
+-- that falls with its reading.
 use mathlib.Core.Path.{_≡_}
 use mathlib.Core.Bool.{true}
 use mathlib.Core.Logic.{_↔_, Iff·trans}

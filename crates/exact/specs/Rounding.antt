@@ -1,5 +1,5 @@
 -- Rounding half up at a unit u: k is recorded for the values from k·u − u/2 (or 0, if greater) up to but not including k·u + u/2.
--- Definitions only; RoundingLaws.antt has what is proved of them. Assumes nothing.
+-- Definitions only; RoundingLaws.antt has what is proved of them.
 use Prim.Native.Nat.{ℕ, _+_, _*_, _-_, _/_, _≤_, _<_}
 use native.Mathlib.Nat.{mul-pos, mul-lt-mul-of-pos-right}
 use native.Mathlib.Omega.{arith}

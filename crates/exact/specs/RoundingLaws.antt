@@ -1,5 +1,4 @@
 -- Rounding has one record for each value, at whatever unit: the one fact on which tenths, thousandths, whole numbers and thousands rest.
--- Assumes nothing.
 use mathlib.Core.Path.{_≡_, refl, sym, _∙_, ap₂}
 use mathlib.Core.Logic.{_↔_}
 use Prim.Native.Nat.{ℕ, zero, suc, _+_, _*_, _-_, _/_, _≤_, _<_}

@@ -1,5 +1,4 @@
 -- How far exact sums and means lie from those formed from records: half a unit for each rate, and half a unit for the total's own rounding.
--- Assumes nothing.
 use mathlib.Core.Path.{_≡_}
 use mathlib.Core.List.{List, [], _∷_}
 use Prim.Native.Nat.{ℕ, zero, suc, _*_, _≤_, _<_}

@@ -1,5 +1,5 @@
 -- Sums of rates over part of an hour each, and plain means: exact, and formed from what was recorded.
--- Definitions only; SumLaws.antt says how far the one lies from the other. Assumes nothing.
+-- Definitions only; SumLaws.antt says how far the one lies from the other.
 use mathlib.Core.List.{List, [], _∷_}
 use Prim.Native.Nat.{ℕ, _+_, _*_, _≤_, _<_}
 use native.Mathlib.Nat.{mul-pos}

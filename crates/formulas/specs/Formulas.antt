@@ -96,7 +96,7 @@ pub record RoundsTo (e : Equation) (p : Pair) : Type 0 where
   pub left : Records (e .left .unit) (p .left) (e .left .count)
   pub right : Records (e .right .unit) (p .right) (e .right .count)
 
--- "lies behind" (01): unrounded readings round to the recorded ones, and their formula value rounds to the figure
+-- "lies behind" (the paper): unrounded readings round to the recorded ones, and their formula value rounds to the figure
 pub record LiesBehind (q : Quantity) (h : Hour) (p : Pair) : Type 0 where
   pub reads : RoundsTo (equationOf q (h .readings)) p
   pub gives : Records (unitOf q) (exactValue q (h .readings) p) (figureOf q (h .figures))

@@ -1,4 +1,4 @@
--- 01's "Hours to try", the rows marked ◆: figures that pass and figures just outside, in one table and one fact.
+-- The paper's "Hours to try", the rows marked ◆: figures that pass and figures just outside, in one table and one fact.
 use mathlib.Core.Path.{_≡_, refl}
 use mathlib.Core.Bool.{Bool, true, not, _&&_}
 use mathlib.Core.List.{List, [], _∷_}

@@ -1,5 +1,4 @@
 -- A buffer and a sheet are filled place by place, a sum is taken byte by byte, and a report that was written fits its buffer.
--- Assumes nothing.
 use Prim.Native.Nat.{ℕ, zero, suc, _+_, _*_, _%_, _≤_, _<_}
 use mathlib.Core.Path.{_≡_, refl, sym, ap, _∙_}
 use mathlib.Core.List.{List, [], _∷_, _++_}

@@ -1,5 +1,4 @@
 -- What a case leaves: how many bytes of the data it takes, and the length of the last report written.
--- Assumes nothing.
 use Prim.Native.Nat.{ℕ, zero, suc, _+_, _*_, _≤_, _<_}
 use mathlib.Core.List.{List}
 use lib.ListN.{length, getD, set}

@@ -1,5 +1,4 @@
 -- Numbers in bytes, and the sum of a buffer. They compute.
--- Assumes nothing.
 use Prim.Native.Nat.{ℕ, zero, suc, _+_, _*_, _%_}
 use mathlib.Core.List.{List, [], _∷_, _++_}
 use lib.ListN.{getD}

@@ -1,5 +1,4 @@
--- Worked examples: the lines of 01's worked hour, of an empty quarter and of a refusalAnswer, and decimal numbers at either side of a digit more.
--- Assumes nothing.
+-- Worked examples: the lines of the paper's worked hour, of an empty quarter and of a refusal, and decimal numbers at either side of a digit more.
 use mathlib.Core.Path.{_≡_, refl}
 use mathlib.Core.List.{[], _∷_, map}
 use Rattle.columns.specs.Written.{digitsOf}

@@ -1,5 +1,4 @@
 -- The line that the program prints for an answer: a word, a space and a decimal number for each number of the answer, byte 10. It computes.
--- Assumes nothing.
 use Prim.Native.Nat.{ℕ, zero, suc, _+_, _*_, _/_}
 use mathlib.Core.List.{List, [], _∷_, _++_}
 use mathlib.Core.Bool.{true, false}

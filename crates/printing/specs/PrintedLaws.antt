@@ -1,5 +1,4 @@
 -- Laws of decimal numbers: they are read back, and have no needless zero in front.
--- Assumes nothing.
 use Prim.Native.Nat.{ℕ, zero, suc, _*_, _/_, _≤_, _<_, _^_}
 use mathlib.Core.Path.{_≡_, refl}
 use native.Mathlib.Omega.{arith}

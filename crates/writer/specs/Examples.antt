@@ -1,4 +1,4 @@
--- 01's worked hour and its empty quarter: what the writer gives for them, byte by byte.
+-- The paper's worked hour and its empty quarter: what the writer gives for them, byte by byte.
 use mathlib.Core.Path.{_≡_, refl}
 use mathlib.Core.List.{List, [], _∷_}
 use Prim.Native.Nat.{ℕ, _+_, _*_, _^_}

@@ -6,7 +6,7 @@ ghost use mathlib.Core.Path.{_≡_};
 ghost use lib.ListN.{length};
 ghost use Rattle.writer.specs.Written.{answered, buffered};
 
-// The length of the report written, or the number of the refusal (01's table).
+// The length of the report written, or the number of the refusal (the paper's table).
 pub enum Written {
     Length(usize),
     Refused(u64),

@@ -1,4 +1,4 @@
--- `calendar::date_of_hour` is `dateOfHour`: each date is shown by the law `date-at`. Assumes nothing.
+-- `calendar::date_of_hour` is `dateOfHour`: each date is shown by the law `date-at`.
 use native.Mathlib.Omega.{arith}
 use mathlib.Core.Path.{refl, sym}
 use Rattle.calendar.specs.MonthLaws.{month-length, Starts, starts}

@@ -1,4 +1,4 @@
--- `calendar::days_before` is `daysBefore`. Assumes nothing.
+-- `calendar::days_before` is `daysBefore`.
 use Prim.Native.Nat.{_+_}
 use native.Mathlib.Omega.{arith}
 use Rattle.calendar.specs.MonthLaws.{month-length, starts}

@@ -1,4 +1,4 @@
--- `calendar::days_in_month` is `daysInMonth`. Assumes nothing.
+-- `calendar::days_in_month` is `daysInMonth`.
 use borrow.Author.Needs.{needs}
 use borrow.Author.Tests.{eq-eqb, ne-eqb}
 use mathlib.Core.Path.{sym, _∙_}

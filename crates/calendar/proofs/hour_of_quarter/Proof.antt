@@ -1,4 +1,4 @@
--- `calendar::hour_of_quarter` is `quarterHour`: each refusal is shown by the law `outside`, the answer by `inside`. Assumes nothing.
+-- `calendar::hour_of_quarter` is `quarterHour`: each refusal is shown by the law `outside`, the answer by `inside`.
 use native.Mathlib.Omega.{arith}
 use mathlib.Core.Path.{sym, ap, _∙_}
 use Prim.Native.Nat.{ℕ, _+_, _≤_}

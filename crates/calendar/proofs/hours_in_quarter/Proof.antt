@@ -1,4 +1,4 @@
--- `calendar::hours_in_quarter` is `hoursInQuarter`. Assumes nothing.
+-- `calendar::hours_in_quarter` is `hoursInQuarter`.
 use native.Mathlib.Omega.{arith}
 use Prim.Native.Nat.{_+_, _≤_}
 use Rattle.calendar.specs.MonthLaws.{month-length}

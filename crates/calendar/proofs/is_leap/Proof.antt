@@ -1,4 +1,4 @@
--- `calendar::is_leap` is `leapYear`. Assumes nothing.
+-- `calendar::is_leap` is `leapYear`.
 use borrow.Author.Tests.{eq-eqb, ne-eqb}
 use Prim.Native.Nat.{_%_}
 use native.Mathlib.Omega.{arith}

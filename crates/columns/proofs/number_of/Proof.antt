@@ -1,5 +1,4 @@
 -- The number in a field, 0 where there is none.
--- Assumes nothing.
 use Rattle.columns.specs.Number.{numberOf}
 use borrow.Author.Needs.{needs}
 use Rattle.columns.proofs.number_of.Statement.{statement}

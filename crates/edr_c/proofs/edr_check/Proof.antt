@@ -1,5 +1,4 @@
 -- `edr_c::edr_check` meets its contract: the numbers of the answer stand at the front.
--- Assumes nothing.
 use mathlib.Core.Path.{sym, _∙_}
 use native.Mathlib.Omega.{arith}
 use lib.ListN.{length-set}

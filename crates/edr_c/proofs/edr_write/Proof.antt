@@ -1,5 +1,4 @@
 -- `edr_c::edr_write` meets its contract: six bytes are handed on as the name.
--- Assumes nothing.
 use mathlib.Core.Path.{sym, ap, _∙_}
 use Rattle.edr_c.specs.Boundary.{writtenCode}
 use Rattle.edr_c.proofs.Filling.{six, no-name, named}

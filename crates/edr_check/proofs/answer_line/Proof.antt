@@ -1,4 +1,4 @@
--- The line is that of the answer. Assumes nothing.
+-- The line is that of the answer.
 use mathlib.Core.Path.{_∙_, ap}
 use lib.ListN.{length}
 use Rattle.columns.specs.Columns.{put}

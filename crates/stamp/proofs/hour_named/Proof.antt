@@ -1,5 +1,4 @@
 -- `stamp::hour_named` meets its contract: the two digits of the year are tested first.
--- Assumes nothing.
 use borrow.Author.Tests.{eq-eqb, ne-eqb}
 use Rattle.stamp.specs.Stamp.{numberHour}
 use borrow.Author.Needs.{needs}

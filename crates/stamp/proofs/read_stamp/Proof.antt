@@ -1,5 +1,4 @@
 -- `stamp::read_stamp` meets its contract: eight digits name an hour, and anything else is outside.
--- Assumes nothing.
 use mathlib.Core.Path.{_≡_, _∙_, sym, ap}
 use Rattle.layout.specs.Layout.{dateWidth}
 use Rattle.columns.specs.Columns.{columns}
