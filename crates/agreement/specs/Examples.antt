@@ -1,8 +1,21 @@
--- The paper's worked hour and empty quarter: the bytes that the writer gives are those that the check accepts.
-
+-- The paper's worked hour and empty quarter: the bytes that the writer gives are those that the check accepts. So are those of recorders
+-- that multiply before they round: 250.04 ppm and 20,000,000.4 scfh are 830.1 lb/hr, and the ends of both spans 829.8 and 830.2.
 use mathlib.Core.Path.{_≡_, refl}
-use Rattle.writer.specs.Examples.{worked, empty}
-use Rattle.checker.specs.Examples.{workedHour, emptyQuarter}
+use mathlib.Core.List.{List, [], _∷_}
+use Prim.Native.Nat.{ℕ}
+use lib.Dec.{lit<}
+use Rattle.exact.specs.Fraction.{Fraction, fraction, whole, over}
+use Rattle.exact.specs.Sums.{totalOf}
+use Rattle.columns.specs.Columns.{put}
+use Rattle.columns.specs.Written.{digitsOf, digitOrBlank, leading, wholeWritten, fixedWritten, written}
+use Rattle.calendar.specs.Calendar.{leapYear, daysInMonth, daysBefore, monthOfDay, dateOfHour}
+use Rattle.stamp.specs.Stamp.{stampNumber, stampOf}
+use Rattle.totals.specs.Totals.{totalsOf, meanOf, quarterOf, quarterTotals}
+use Rattle.records.specs.Records.{headed, valued, facilityRecord, totalsRecord}
+use Rattle.writer.specs.Written.{hourRecord, writtenRecords, lined, report}
+use Rattle.writer.specs.Examples.{stack, worked, empty}
+use Rattle.checker.specs.Examples.{workedHour, emptyQuarter, lowest, between, highest}
+use Rattle.agreement.specs.Recorder.{roundedHours}
 
 pub worked-same : worked ≡ workedHour
 unfolding worked workedHour
@@ -11,3 +24,17 @@ worked-same = refl
 pub empty-same : empty ≡ emptyQuarter
 unfolding empty emptyQuarter
 empty-same = refl
+
+-- the worked hour as it was measured, its SO2 and flow being these
+abbrev measured : Fraction → Fraction → List ℕ
+measured so2 flow =
+    report 2005 3 stack
+    (roundedHours (record { hour = 0; time = 50; fc = 18_000; readings = record { so2 = so2; nox = whole 200; co2 = whole 12; flow = flow } } ∷ []))
+
+pub measured-same : (measured (fraction 25_004 100 (lit< tt)) (fraction 200_000_004 10 (lit< tt)) ≡ between)
+    × (measured (fraction 24_995 100 (lit< tt)) (fraction 199_999_995 10 (lit< tt)) ≡ lowest)
+    × (measured (fraction 2_500_499 10_000 (lit< tt)) (fraction 2_000_000_049 100 (lit< tt)) ≡ highest)
+unfolding workedHour put over totalOf digitsOf digitOrBlank leading wholeWritten fixedWritten written leapYear daysInMonth daysBefore monthOfDay
+    dateOfHour stampNumber stampOf totalsOf meanOf quarterOf quarterTotals headed valued facilityRecord totalsRecord hourRecord writtenRecords lined
+    report
+measured-same = (refl, refl, refl)

@@ -26,8 +26,7 @@ use Rattle.lines.specs.declared.Period.{Period}
 use Rattle.lines.specs.declared.FacilityLine.the-variants.{Of}
 use Rattle.lines.specs.declared.HourLine.the-variants.{At as OfHour}
 use Rattle.sheet.specs.TestLaws.{Heading}
-use Rattle.sheet.specs.declared.SheetHour.{SheetHour}
-use Rattle.writer.specs.Recorded.{recordedHour}
+use Rattle.writer.specs.Recorded.{ReportHour}
 use Rattle.records.specs.Records.{headed, facilityRecord, hourValues, totalValues, totalsRecord}
 use Rattle.writer.specs.Written.{hourRecord}
 use Rattle.records.specs.RecordLaws.{facility-printable, totals-printable}
@@ -106,7 +105,7 @@ module _ (year quarter : ℕ) (name : List ℕ) (g : Heading year quarter name) 
   facility-named = rw (facility-right, facilityLine) (λ i. Of (record { year = year-read i; quarter = quarter-read i }))
 
   -- a record of an hour, of a type that has a date
-  module _ (t : RecordType) (dated : 1 ≤ dateColumn t) (h : SheetHour) where
+  module _ (t : RecordType) (dated : 1 ≤ dateColumn t) (h : ReportHour) where
     abbrev line : List ℕ
     line = hourRecord year quarter name t h
 
@@ -122,13 +121,13 @@ module _ (year quarter : ℕ) (name : List ℕ) (g : Heading year quarter name) 
 
     pub hour-framed : Framed t name line
     unfolding hourRecord stamped
-    hour-framed = framed-valued t name (hourValues t (recordedHour h)) stamped stamped-framed
+    hour-framed = framed-valued t name (hourValues t (h .recorded)) stamped stamped-framed
 
     pub hour-date : columns (dateColumn t) dateWidth line ≡ stampOf year quarter (h .hour)
     unfolding hourRecord stamped
     hour-date =
         let d = date-inside t dated in
-        valued-before (frontColumns t) (lengthOf t) (valuesOf t) (hourValues t (recordedHour h)) stamped (dateColumn t) dateWidth (ordered t)
+        valued-before (frontColumns t) (lengthOf t) (valuesOf t) (hourValues t (h .recorded)) stamped (dateColumn t) dateWidth (ordered t)
         (stamped-framed .long)
         (omega (arith, dated-front t dated))
         ∙ columns-back (dateColumn t) dateWidth (stampOf year quarter (h .hour)) (headed t name) (stamp-length year quarter (h .hour))
@@ -137,10 +136,10 @@ module _ (year quarter : ℕ) (name : List ℕ) (g : Heading year quarter name) 
     hour-common : commonFault facility t line ≡ 0
     hour-common = framed-common t name facility line (facility-framed .stack) hour-framed (hour-printable name (g .printable) year quarter t h)
 
-    module _ (a : ValuesWithin (valuesOf t) (hourValues t (recordedHour h))) where
+    module _ (a : ValuesWithin (valuesOf t) (hourValues t (h .recorded))) where
       hour-values : valuesFault (valuesOf t) line ≡ 0
       unfolding hourRecord stamped
-      hour-values = valued-right t (hourValues t (recordedHour h)) stamped (stamped-framed .long) a
+      hour-values = valued-right t (hourValues t (h .recorded)) stamped (stamped-framed .long) a
 
       date-right : dateFault (dateColumn t) (stampOf year quarter (h .hour)) line ≡ 0
       unfolding dateFault
@@ -155,8 +154,8 @@ module _ (year quarter : ℕ) (name : List ℕ) (g : Heading year quarter name) 
       hour-due = rw (hour-common, date-right, hour-values)
 
   -- the 200 line of an hour that may follow
-  module _ (h : SheetHour) (b : h .hour < hoursInQuarter year quarter)
-      (a : ValuesWithin (valuesOf So2Concentration) (hourValues So2Concentration (recordedHour h))) where
+  module _ (h : ReportHour) (b : h .hour < hoursInQuarter year quarter)
+      (a : ValuesWithin (valuesOf So2Concentration) (hourValues So2Concentration (h .recorded))) where
     named-hour : hourOn period (hourRecord year quarter name So2Concentration h) ≡ At (h .hour)
     named-hour = rw (hour-date So2Concentration (omega arith) h) (stamp-names year quarter (g .isQuarter) (h .hour) b)
 

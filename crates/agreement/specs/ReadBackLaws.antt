@@ -21,20 +21,27 @@ use Rattle.reading.specs.Recorded.{linesWith, recordsOf, valueOn, hourCount, ho
 use Rattle.reading.specs.Places.{numbered}
 use Rattle.reading.specs.RunLaws.{LineRun, Typed, joined, runsFrom, order-chosen, numbered-length, numbered-at}
 use Rattle.sheet.specs.TestLaws.{Heading}
-use Rattle.sheet.specs.declared.SheetHour.{SheetHour}
-use Rattle.writer.specs.Recorded.{recordedHour, recordedHours}
+use Rattle.writer.specs.Recorded.{ReportHour, recordedHours}
 use Rattle.records.specs.Records.{headed, hourValues, totalValues, totalsRecord}
 use Rattle.writer.specs.Writable.{HourWritable}
 use Rattle.writer.specs.Written.{hourRecord, writtenRecords, report}
 use Rattle.writer.specs.ReportLaws.{hour-records, records-count}
+use Rattle.agreement.specs.Reportable.{AllWritable}
 use Rattle.agreement.specs.RecordLaws.{framed-headed, value-back}
 use Rattle.agreement.specs.HourRecordLaws.{stamped, stamped-framed}
-use Rattle.agreement.specs.ReportLaws.{AllWritable, hour-values-within, recorded-length, formed, totals-within, recordsIn, report-lines, records-typed}
+use Rattle.agreement.specs.ReportLaws.{hour-values-within, recorded-length, formed, totals-within, recordsIn, report-lines, records-typed}
 
-abbrev noHour : SheetHour
-noHour = record { hour = 0; time = 0; readings = record { so2 = 0; nox = 0; co2 = 0; flow = 0; fc = 0 } }
+abbrev noHour : ReportHour
+noHour = record {
+  hour = 0;
+  recorded = record {
+    time = 0;
+    readings = record { so2 = 0; nox = 0; co2 = 0; flow = 0; fc = 0 };
+    figures = record { heat = 0; so2 = 0; nox = 0; co2 = 0 };
+  };
+}
 
-module _ (year quarter : ℕ) (name : List ℕ) (g : Heading year quarter name) (named : length name ≡ stackWidth) (hs : List SheetHour) where
+module _ (year quarter : ℕ) (name : List ℕ) (g : Heading year quarter name) (named : length name ≡ stackWidth) (hs : List ReportHour) where
   abbrev file : List ℕ
   file = report year quarter name hs
 
@@ -72,7 +79,7 @@ module _ (year quarter : ℕ) (name : List ℕ) (g : Heading year quarter name) 
   -- of an hour
   hour-value : (t : RecordType) → recordOf t .run ≡ Hourly → (k i : ℕ) → k < length hs → k < countOf (shape (length hs)) t → i < valueCount t →
       AllWritable year quarter hs →
-      valueOn file t k i ≡ getD (hourValues t (recordedHour (getD hs k noHour))) i 0
+      valueOn file t k i ≡ getD (hourValues t (getD hs k noHour .recorded)) i 0
   unfolding numberOf hourRecord stamped
   hour-value t e k i h b c a =
       let x = getD hs k noHour in
@@ -81,12 +88,12 @@ module _ (year quarter : ℕ) (name : List ℕ) (g : Heading year quarter name) 
       value-from t k i b
       ∙ ap (λ (r : List ℕ). numberOf (fieldIn (valueAt t i) r))
       (ap (λ (rs : List (List ℕ)). getD rs k []) (hour-records year quarter name hs t e) ∙ mapped-at (hourRecord year quarter name t) hs noHour [] k h)
-      ∙ ap numberOf (value-back t (hourValues t (recordedHour x)) (stamped year quarter name g named t d x)
+      ∙ ap numberOf (value-back t (hourValues t (x .recorded)) (stamped year quarter name g named t d x)
       (stamped-framed year quarter name g named t d x .long) (hour-values-within t x d w) i c)
 
   module _ (a : AllWritable year quarter hs) where
     -- an hour of the report is that of the sheet
-    hour-back : (k : ℕ) → k < length hs → hourAt file k ≡ recordedHour (getD hs k noHour)
+    hour-back : (k : ℕ) → k < length hs → hourAt file k ≡ getD hs k noHour .recorded
     unfolding hourAt
     hour-back k h =
         rw (
@@ -106,7 +113,7 @@ module _ (year quarter : ℕ) (name : List ℕ) (g : Heading year quarter name) 
     count-back = rw (records-back So2Concentration) (numbered-length (records So2Concentration) _ ∙ counted 0 So2Concentration)
 
     hours-from : (k left : ℕ) → k + left ≡ length hs → ranked (hourAt file) k left ≡ recordedHours (drop k hs)
-    unfolding ranked recordedHours
+    unfolding ranked
     hours-from k zero e =
         let b : length hs ≤ k = omega arith in
         rw (drop-of-length-le hs b)

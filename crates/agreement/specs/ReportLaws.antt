@@ -11,7 +11,7 @@ use lib.ListN.{length, length-map}
 use borrow.Author.Tests.{ne-eqb, not-true}
 use Rattle.columns.specs.Bytes.{isPrintable, all}
 use Rattle.columns.specs.BytesLaws.{all-head, all-tail}
-use Rattle.calendar.specs.Calendar.{mostHours, hoursInQuarter}
+use Rattle.calendar.specs.Calendar.{mostHours}
 use Rattle.layout.specs.Layout.{recordOf, codeOf, dateColumn, stackWidth, valuesOf, order, shape}
 use Rattle.exact.specs.Logic.{both, All}
 use Rattle.layout.specs.PlaceLaws.{joinedRuns}
@@ -34,14 +34,12 @@ use Rattle.reading.specs.Reading.{laterTypes, datesOf, runOf, runsOf, reportOf,
 use Rattle.reading.specs.CleanLaws.{Matches, ended-walked}
 use Rattle.reading.specs.declared.Report.{Report}
 use Rattle.reading.specs.declared.Reading.the-variants.{Clean}
-use Rattle.sheet.specs.SheetTests.{hoursRise}
-use Rattle.sheet.specs.TestLaws.{Heading, rise-first}
-use Rattle.sheet.specs.declared.SheetHour.{SheetHour}
-use Rattle.writer.specs.Recorded.{recordedHour, recordedHours}
-use Rattle.writer.specs.Writable.{HourWritable}
+use Rattle.sheet.specs.TestLaws.{Heading}
+use Rattle.writer.specs.Recorded.{ReportHour, recordedHours}
 use Rattle.records.specs.Records.{ended, facilityRecord, hourValues, totalValues}
 use Rattle.writer.specs.Written.{hourRecord, onceRecord, runRecords, writtenRecords, lined, report}
 use Rattle.writer.specs.ReportLaws.{records-each, records-printable}
+use Rattle.agreement.specs.Reportable.{AllWritable, Rising}
 use Rattle.agreement.specs.RecordLaws.{framed-type, ValuesWithin}
 use Rattle.agreement.specs.HourRecordLaws.{facility, period, facility-framed, facility-named, hour-framed, hour-date, hour-due, hour-named}
 use Rattle.agreement.specs.HourRecordLaws.{totals-framed, totals-due}
@@ -107,12 +105,9 @@ append-matches first [] es (l ∷ ls) ms p q = absurd p
 append-matches first (d ∷ ds) es [] ms p q = absurd p
 append-matches first (d ∷ ds) es (l ∷ ls) ms p q = (p .0, append-matches first ds es ls ms (p .1) q)
 
-abbrev pub AllWritable : ℕ → ℕ → List SheetHour → Type 0
-AllWritable year quarter hs = All (HourWritable year quarter) hs
-
 -- the values of an hour in the record of a type lie in their ranges
-pub hour-values-within : (t : RecordType) (h : SheetHour) → 1 ≤ dateColumn t → HourWithin (recordedHour h) →
-    ValuesWithin (valuesOf t) (hourValues t (recordedHour h))
+pub hour-values-within : (t : RecordType) (h : ReportHour) → 1 ≤ dateColumn t → HourWithin (h .recorded) →
+    ValuesWithin (valuesOf t) (hourValues t (h .recorded))
 hour-values-within Facility h d w = tt
 hour-values-within So2Concentration h d w = (w .readings .so2, tt)
 hour-values-within NoxConcentration h d w = (w .readings .nox, tt)
@@ -124,27 +119,25 @@ hour-values-within So2Mass h d w = (w .figures .so2, tt)
 hour-values-within NoxRate h d w = (w .readings .fc, (w .figures .nox, tt))
 hour-values-within Co2Mass h d w = (w .figures .co2, tt)
 
-recorded-within : (year quarter : ℕ) (hs : List SheetHour) → AllWritable year quarter hs → HoursWithin (recordedHours hs)
-unfolding recordedHours
+recorded-within : (year quarter : ℕ) (hs : List ReportHour) → AllWritable year quarter hs → HoursWithin (recordedHours hs)
 recorded-within year quarter [] a = tt
 recorded-within year quarter (h ∷ hs) a = (a .0 .within, recorded-within year quarter hs (a .1))
 
-pub recorded-length : (hs : List SheetHour) → length (recordedHours hs) ≡ length hs
-unfolding recordedHours
+pub recorded-length : (hs : List ReportHour) → length (recordedHours hs) ≡ length hs
 recorded-length [] = refl
 recorded-length (h ∷ hs) = ap suc (recorded-length hs)
 
 -- the totals that a report states
-abbrev pub formed : List SheetHour → Quarter
+abbrev pub formed : List ReportHour → Quarter
 formed hs = quarterTotals (recordedHours hs)
 
-pub totals-within : (year quarter : ℕ) (hs : List SheetHour) → AllWritable year quarter hs → length hs ≤ mostHours →
+pub totals-within : (year quarter : ℕ) (hs : List ReportHour) → AllWritable year quarter hs → length hs ≤ mostHours →
     ValuesWithin (valuesOf QuarterTotals) (totalValues (formed hs))
 totals-within year quarter hs a b =
     let f = totals-fit (recordedHours hs) (recorded-within year quarter hs a) (omega (arith, recorded-length hs)) in
     (f .so2, (f .co2, (f .heat, (f .nox, tt))))
 
-module _ (year quarter : ℕ) (name : List ℕ) (g : Heading year quarter name) (named : length name ≡ stackWidth) (hs : List SheetHour) where
+module _ (year quarter : ℕ) (name : List ℕ) (g : Heading year quarter name) (named : length name ≡ stackWidth) (hs : List ReportHour) where
   abbrev records : RecordType → List (List ℕ)
   records t = writtenRecords year quarter name hs t
 
@@ -182,13 +175,13 @@ module _ (year quarter : ℕ) (name : List ℕ) (g : Heading year quarter name) 
 
   -- the lines of the later types are those that are due
 
-  abbrev stamps : List SheetHour → List (List ℕ)
+  abbrev stamps : List ReportHour → List (List ℕ)
   stamps xs = map (λ h. stampOf year quarter (h .hour)) xs
 
   first : List ℕ
   first = facility year quarter name g named
 
-  hours-due : (t : RecordType) → 1 ≤ dateColumn t → (xs : List SheetHour) → AllWritable year quarter xs →
+  hours-due : (t : RecordType) → 1 ≤ dateColumn t → (xs : List ReportHour) → AllWritable year quarter xs →
       Matches first (map (dueOf t) (stamps xs)) (map (hourRecord year quarter name t) xs)
   unfolding first
   hours-due t d [] a = tt
@@ -239,8 +232,8 @@ module _ (year quarter : ℕ) (name : List ℕ) (g : Heading year quarter name) 
   stops line from dates (l ∷ ls) o = rw (o, walkHours)
 
   -- the 200 lines, one after the other
-  hours-walked : (xs : List SheetHour) (line from : ℕ) (dates later : List (List ℕ)) → AllWritable year quarter xs →
-      hoursRise (hoursInQuarter year quarter) from xs ≡ true → Other later →
+  hours-walked : (xs : List ReportHour) (line from : ℕ) (dates later : List (List ℕ)) → AllWritable year quarter xs →
+      Rising from xs → Other later →
       walkHours first (period year quarter name g named) line from dates (map (hourRecord year quarter name So2Concentration) xs ++ later)
       ≡ walkLater first (period year quarter name g named) (line + length xs) (dates ++ stamps xs) later
   unfolding walkHours first
@@ -248,7 +241,6 @@ module _ (year quarter : ℕ) (name : List ℕ) (g : Heading year quarter name) 
       let e : line + 0 ≡ line = omega arith in
       rw (e, append-nil dates) (stops line from dates later o)
   hours-walked (x ∷ xs) line from dates later a r o =
-      let b = rise-first (hoursInQuarter year quarter) from x xs r in
       let l = hourRecord year quarter name So2Concentration x in
       let w = hour-values-within So2Concentration x (omega arith) (a .0 .within) in
       let e : line + 1 + length xs ≡ line + suc (length xs) = omega arith in
@@ -258,13 +250,13 @@ module _ (year quarter : ℕ) (name : List ℕ) (g : Heading year quarter name) 
       rw (
         framed-type So2Concentration name l (hour-framed year quarter name g named So2Concentration (omega arith) x),
         walkHours,
-        hour-named year quarter name g named x (b .1) w from (b .0),
+        hour-named year quarter name g named x (a .0 .exists) w from (r .0),
         add-one (x .hour),
       )
-      (hours-walked xs (line + 1) (suc (x .hour)) (dates ++ (dateOn l ∷ [])) later (a .1) (b .2) o
+      (hours-walked xs (line + 1) (suc (x .hour)) (dates ++ (dateOn l ∷ [])) later (a .1) (r .1) o
       ∙ ap₂ (λ (n : ℕ) (s : List (List ℕ)). walkLater first (period year quarter name g named) n s later) e d)
 
-  module _ (a : AllWritable year quarter hs) (r : hoursRise (hoursInQuarter year quarter) 0 hs ≡ true) (few : length hs ≤ mostHours) where
+  module _ (a : AllWritable year quarter hs) (r : Rising 0 hs) (few : length hs ≤ mostHours) where
     abbrev pub own : Report
     own = record { period = period year quarter name g named; shape = shape (length hs) }
 

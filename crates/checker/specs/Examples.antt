@@ -81,6 +81,19 @@ start t = offsetOf (shape 1) t 0
 abbrev pub changed : RecordType → ℕ → List ℕ → List ℕ
 changed t column bytes = put (start t + column) bytes workedHour
 
+-- the worked hour with another SO2 figure: what recorders that multiply before they round may write beside 250.0 and 20,000,000
+abbrev pub withSo2 : List ℕ → List ℕ
+withSo2 figure = changed So2Mass 27 figure
+
+abbrev pub lowest : List ℕ
+lowest = withSo2 (56 ∷ 50 ∷ 57 ∷ 46 ∷ 56 ∷ [])
+
+abbrev pub between : List ℕ
+between = withSo2 (56 ∷ 51 ∷ 48 ∷ 46 ∷ 49 ∷ [])
+
+abbrev pub highest : List ℕ
+highest = withSo2 (56 ∷ 51 ∷ 48 ∷ 46 ∷ 50 ∷ [])
+
 -- every line number is told from the lines of the file: those that the line checks count, those of the figures, and that of the totals
 abbrev pub damages : List Damage
 damages =
@@ -115,18 +128,23 @@ damages =
     ∷ record { file = changed QuarterTotals 39 (57 ∷ []); number = 23; line = 7 }
     ∷ []
 
+unfoldable pub allAnswered : List (List ℕ) → List ℕ → Bool
+allAnswered [] numbers = true
+allAnswered (f ∷ fs) numbers = same (numbersOf (checked f)) numbers && allAnswered fs numbers
+
 unfoldable pub allNamed : List Damage → Bool
 allNamed [] = true
 allNamed (d ∷ ds) = same (numbersOf (checked (d .file))) (refusal (d .number) (d .line)) && allNamed ds
 
--- what the check answers to the worked hour, to the empty quarter and to the damaged files
+-- what the check answers to the worked hour (also with 829.8, 830.1 and 830.2 lb/hr), to the empty quarter and to the damaged files
 pub answers : (numbersOf (checked workedHour) ≡ 1 ∷ 2 ∷ 684 ∷ 6667 ∷ 358 ∷ [])
+    × (allAnswered (lowest ∷ between ∷ highest ∷ []) (1 ∷ 2 ∷ 684 ∷ 6667 ∷ 358 ∷ []) ≡ true)
     × (numbersOf (checked emptyQuarter) ≡ 0 ∷ 0 ∷ 0 ∷ 0 ∷ 0 ∷ [])
     × (allNamed damages ≡ true)
-unfolding workedHour emptyQuarter allNamed put
+unfolding workedHour emptyQuarter allAnswered allNamed put
     over meets totalOf all same columns digitsFrom wholeOf decimalsBehind fixedOf fieldOf numberOf digitsOf leapYear daysInMonth inQuarter daysBefore
     hourOfQuarter quarterHour numberHour fieldHour stampHour passesTest totalsOf meanOf quarterOf quarterTotals onto lines last typeIs shapeFault
     stackFault commonFault within fieldFault valuesFault digitsIn facilityFault facilityLine risingFault hourFault hourNumber hourLine dateFault
     dueFault runOf runsOf walkDue walkLater walkHours walk readOf linesWith recordsOf valueOn hourAt ranked hoursOf totalsIn judgedFigures
     judgedHours firstDiffering comparedTotals judged afterReading checked
-answers = (refl, refl, refl)
+answers = (refl, refl, refl, refl)

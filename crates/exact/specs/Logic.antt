@@ -40,6 +40,10 @@ abbrev pub All : {A : Type 0} → (A → Type 0) → List A → Type 0
 All P [] = Unit {0}
 All P (x ∷ xs) = P x × All P xs
 
+pub mapped-all : {A : Type 0} {B : Type 0} (P : B → Type 0) (f : A → B) (xs : List A) → All (λ x. P (f x)) xs → All P (map f xs)
+mapped-all P f [] a = tt
+mapped-all P f (x ∷ xs) a = (a .0, mapped-all P f xs (a .1))
+
 pub ranked-all : {A : Type 0} (P : A → Type 0) (f : ℕ → A) (n k left : ℕ) → ((j : ℕ) → j < n → P (f j)) → k + left ≤ n → All P (ranked f k left)
 unfolding ranked
 ranked-all P f n k zero w h = tt

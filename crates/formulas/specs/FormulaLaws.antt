@@ -13,9 +13,9 @@ use Rattle.exact.specs.Rounding.{Span, In, span, lowEnd}
 use Rattle.exact.specs.RoundingLaws.{records-recorded, records-rounded}
 use Rattle.exact.specs.ProductLaw.{product-law}
 use Rattle.exact.specs.QuotientLaw.{recorded-divisors, quotient-law}
-use Rattle.formulas.specs.Hour.{unitOf, figureOf, ReadingsWithin, asRecorded}
+use Rattle.formulas.specs.Hour.{tenth, flowUnit, unitOf, figureOf, ReadingsWithin, Unrounded, asRecorded}
 use Rattle.formulas.specs.Formulas.{Measured, Equation, equationOf, Pair, pairOf, equationValue, RoundsTo, LiesBehind, spanOf, equationMeets, passesTest}
-use Rattle.formulas.specs.Formulas.{recordedPair, roundedValue, roundedFigures}
+use Rattle.formulas.specs.Formulas.{exactValue, recordedPair, roundedValue, roundedFigures, readingsFrom, figureFrom, figuresFrom, hourFrom}
 use Rattle.formulas.specs.declared.Form.{Form}
 use Rattle.formulas.specs.declared.Form.the-variants.{Product, Quotient}
 use Rattle.formulas.specs.declared.hour.Readings.{Readings}
@@ -118,3 +118,23 @@ written-behind q h e =
       reads = recorded-rounds x;
       gives = rw (e, rounded-figure q (h .readings)) (records-rounded (unitOf q) (equationValue x (recordedPair x)));
     })
+
+-- unrounded readings lie behind what a recorder records of them
+
+rounds-from : (q : Quantity) (u : Unrounded) (fc : ℕ) → RoundsTo (equationOf q (readingsFrom u fc)) (pairOf q u)
+rounds-from Heat u fc = record { left = records-rounded tenth (u .co2); right = records-rounded flowUnit (u .flow) }
+rounds-from So2 u fc = record { left = records-rounded tenth (u .so2); right = records-rounded flowUnit (u .flow) }
+rounds-from Nox u fc = record { left = records-rounded tenth (u .nox); right = records-rounded tenth (u .co2) }
+rounds-from Co2 u fc = record { left = records-rounded tenth (u .co2); right = records-rounded flowUnit (u .flow) }
+
+figure-from : (q : Quantity) (u : Unrounded) (fc : ℕ) → figureOf q (figuresFrom u fc) ≡ figureFrom q u fc
+figure-from Heat u fc = refl
+figure-from So2 u fc = refl
+figure-from Nox u fc = refl
+figure-from Co2 u fc = refl
+
+pub recorded-behind : (q : Quantity) (u : Unrounded) (fc time : ℕ) → LiesBehind q (hourFrom u fc time) (pairOf q u)
+recorded-behind q u fc time = record {
+  reads = rounds-from q u fc;
+  gives = rw (figure-from q u fc) (records-rounded (unitOf q) (exactValue q (readingsFrom u fc) (pairOf q u)));
+}

@@ -125,9 +125,35 @@ pub record Judges (q : Quantity) (h : Hour) (verdict : Bool) : Type 0 where
 abbrev pub recordedPair : Equation → Pair
 recordedPair e = record { left = recorded (e .left .unit) (e .left .count); right = recorded (e .right .unit) (e .right .count) }
 
--- what the writer writes: the formula of the recorded readings, rounded half up
+-- a formula's exact value at unrounded readings, rounded half up
+abbrev pub roundedAt : Quantity → Readings → Pair → ℕ
+roundedAt q r p = halfUp (unitOf q) (exactValue q r p)
+
+-- what the writer writes: the formula of the recorded readings, rounded
 unfoldable pub roundedValue : Quantity → Readings → ℕ
-roundedValue q r = halfUp (unitOf q) (exactValue q r (recordedPair (equationOf q r)))
+roundedValue q r = roundedAt q r (recordedPair (equationOf q r))
 
 unfoldable pub roundedFigures : Readings → Figures
 roundedFigures r = record { heat = roundedValue Heat r; so2 = roundedValue So2 r; nox = roundedValue Nox r; co2 = roundedValue Co2 r }
+
+-- what a recorder that multiplies before it rounds records of unrounded readings: each of them rounded, beside Fc, and the formulas of the
+-- unrounded readings, rounded
+
+abbrev pub readingsFrom : Unrounded → (fc : ℕ) → Readings
+readingsFrom u fc = record {
+  so2 = halfUp tenth (u .so2);
+  nox = halfUp tenth (u .nox);
+  co2 = halfUp tenth (u .co2);
+  flow = halfUp flowUnit (u .flow);
+  fc = fc;
+}
+
+abbrev pub figureFrom : Quantity → Unrounded → (fc : ℕ) → ℕ
+figureFrom q u fc = roundedAt q (readingsFrom u fc) (pairOf q u)
+
+abbrev pub figuresFrom : Unrounded → (fc : ℕ) → Figures
+figuresFrom u fc = record { heat = figureFrom Heat u fc; so2 = figureFrom So2 u fc; nox = figureFrom Nox u fc; co2 = figureFrom Co2 u fc }
+
+-- "honestly rounded" of one hour: for so many hundredths of an hour
+abbrev pub hourFrom : Unrounded → (fc time : ℕ) → Hour
+hourFrom u fc time = record { time = time; readings = readingsFrom u fc; figures = figuresFrom u fc }

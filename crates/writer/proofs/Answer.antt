@@ -7,10 +7,10 @@ use lib.ListN.{length}
 use Rattle.columns.specs.Columns.{put}
 use Rattle.layout.specs.Layout.{stackWidth, reportLength}
 use Rattle.sheet.specs.Sheet.{shapeOf, sheetHours}
-use Rattle.sheet.specs.SheetLaws.{sheet-hours-count}
+use Rattle.writer.specs.Recorded.{reportHours}
 use Rattle.writer.specs.Refusals.{refusalOf}
 use Rattle.writer.specs.Written.{report, answered, buffered}
-use Rattle.writer.specs.ReportLaws.{written-length}
+use Rattle.writer.specs.ReportLaws.{report-hours-count, written-length}
 use Rattle.writer.specs.declared.Written.the-variants.{Length, Refused}
 
 module _ (year quarter : ℕ) (name sheet buffer : List ℕ) where
@@ -22,9 +22,9 @@ module _ (year quarter : ℕ) (name sheet buffer : List ℕ) where
 
   pub accepted : 0 ≡ refusalOf year quarter name sheet (length buffer) → length name ≡ stackWidth
       → (Length (reportLength (shapeOf sheet)) ≡ answered year quarter name sheet (length buffer))
-      × (put 1 (report year quarter name (sheetHours sheet)) buffer ≡ buffered year quarter name sheet buffer)
+      × (put 1 (report year quarter name (reportHours (sheetHours sheet))) buffer ≡ buffered year quarter name sheet buffer)
   unfolding answered buffered put
   accepted e named =
-      let n : 1 - 1 + length (report year quarter name (sheetHours sheet)) ≡ reportLength (shapeOf sheet) =
-      omega (arith, written-length year quarter name (sheetHours sheet) named (shapeOf sheet) (sheet-hours-count sheet)) in
+      let n : 1 - 1 + length (report year quarter name (reportHours (sheetHours sheet))) ≡ reportLength (shapeOf sheet) =
+      omega (arith, written-length year quarter name (reportHours (sheetHours sheet)) named (shapeOf sheet) (report-hours-count sheet)) in
       (rw (← e, answered), rw (← e, buffered, n))

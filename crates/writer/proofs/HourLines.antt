@@ -24,8 +24,7 @@ use Rattle.layout.specs.declared.Run.the-variants.{Once, Hourly}
 use Rattle.layout.specs.declared.RecordType.{RecordType}
 use Rattle.layout.specs.declared.RecordType.the-variants.{Facility, QuarterTotals}
 use Rattle.layout.specs.declared.Shape.{Shape}
-use Rattle.sheet.specs.declared.SheetHour.{SheetHour}
-use Rattle.writer.specs.Recorded.{recordedHour, recordedHours}
+use Rattle.writer.specs.Recorded.{ReportHour, recordedHours}
 use Rattle.records.specs.Records.{ended, facilityRecord, totalsRecord}
 use Rattle.writer.specs.Written.{hourRecord, writtenRecords, report}
 use Rattle.writer.specs.HourLines.{hourLines, hoursLines}
@@ -37,7 +36,7 @@ use Rattle.writer.proofs.Puts.{Own, Right, unknown, put-fills, put-keep
 drop-next : {A : Type 0} (xs : List A) (k : ℕ) (a : A) (rest : List A) → drop k xs ≡ a ∷ rest → drop (k + 1) xs ≡ rest
 drop-next xs k a rest e = sym (drop-drop 1 k xs) ∙ ap (drop 1) e
 
-module _ (year quarter : ℕ) (name : List ℕ) (named : length name ≡ stackWidth) (hours : List SheetHour) (s : Shape) (count : length hours ≡ s .hours)
+module _ (year quarter : ℕ) (name : List ℕ) (named : length name ≡ stackWidth) (hours : List ReportHour) (s : Shape) (count : length hours ≡ s .hours)
     (before : List ℕ) (room : reportLength s ≤ length before) where
   abbrev text : List ℕ
   text = report year quarter name hours
@@ -70,7 +69,7 @@ module _ (year quarter : ℕ) (name : List ℕ) (named : length name ≡ stackWi
       }
 
   -- hour k's lines, of the types that have one an hour
-  module _ (k : ℕ) (h : SheetHour) (rest : List SheetHour) (here : drop k hours ≡ h ∷ rest) where
+  module _ (k : ℕ) (h : ReportHour) (rest : List ReportHour) (here : drop k hours ≡ h ∷ rest) where
     pub rank-below : k < s .hours
     rank-below = omega (arith, length-drop k hours, ap length here, count)
 
@@ -79,7 +78,7 @@ module _ (year quarter : ℕ) (name : List ℕ) (named : length name ≡ stackWi
         let few : k < countOf s t = rw e rank-below in
         let rs = ap (λ (rs : List (List ℕ)). getD rs k []) (hour-records year quarter name hours t e) in
         let m = rank-below in
-        let own : getD hours k h ≡ h = ap (λ (l : List SheetHour). getD l 0 h) (sym (drop-cons hours k h (omega (arith, count, m))) ∙ here) in
+        let own : getD hours k h ≡ h = ap (λ (l : List ReportHour). getD l 0 h) (sym (drop-cons hours k h (omega (arith, count, m))) ∙ here) in
         let r = mapped-at (hourRecord year quarter name t) hours h [] k (omega (arith, count, m)) ∙ ap (hourRecord year quarter name t) own in
         own-line t k (hourRecord year quarter name t h) few (rs ∙ r) (hour-length name named year quarter t h)
 
@@ -87,7 +86,7 @@ module _ (year quarter : ℕ) (name : List ℕ) (named : length name ≡ stackWi
     line-length t = ended-length (hourRecord year quarter name t h) (hour-length name named year quarter t h)
 
     abbrev withLines : List RecordType → List ℕ → List ℕ
-    withLines ts buffer = hourLines name s k (stampOf year quarter (h .hour)) (recordedHour h) ts buffer
+    withLines ts buffer = hourLines name s k (stampOf year quarter (h .hour)) (h .recorded) ts buffer
 
     module _ (i : ℕ) {P : Type 0} where
       lines-keep : (ts : List RecordType) (buffer : List ℕ) → Right whole i P buffer → Right whole i P (withLines (hourly ts) buffer)
@@ -120,17 +119,17 @@ module _ (year quarter : ℕ) (name : List ℕ) (named : length name ≡ stackWi
       hour-fills t e l m buffer long = lines-fill t e l m order (rankOf t) buffer (in-order t .0) (in-order t .1) long
 
   -- those of the hours from hour k on
-  abbrev withHours : ℕ → List SheetHour → List ℕ → List ℕ
+  abbrev withHours : ℕ → List ReportHour → List ℕ → List ℕ
   withHours k hs buffer = hoursLines year quarter name s k hs buffer
 
-  hours-keep : {P : Type 0} (i k : ℕ) (hs : List SheetHour) (buffer : List ℕ) → drop k hours ≡ hs → Right whole i P buffer
+  hours-keep : {P : Type 0} (i k : ℕ) (hs : List ReportHour) (buffer : List ℕ) → drop k hours ≡ hs → Right whole i P buffer
       → Right whole i P (withHours k hs buffer)
   unfolding hoursLines
   hours-keep i k [] buffer e r = r
   hours-keep i k (h ∷ hs) buffer e r =
       hours-keep i (suc k) hs (withLines k h hs e (hourly order) buffer) (rw (← add-one k) (drop-next hours k h hs e)) (lines-keep k h hs e i order buffer r)
 
-  hours-fill : {P : Type 0} (i : ℕ) (t : RecordType) → recordOf t .run ≡ Hourly → (k : ℕ) (hs : List SheetHour) (buffer : List ℕ) → drop k hours ≡ hs
+  hours-fill : {P : Type 0} (i : ℕ) (t : RecordType) → recordOf t .run ≡ Hourly → (k : ℕ) (hs : List ReportHour) (buffer : List ℕ) → drop k hours ≡ hs
       → offsetOf s t k ≤ i → i < offsetOf s t (s .hours) → length buffer ≡ length whole → Right whole i P (withHours k hs buffer)
   unfolding hoursLines
   hours-fill i t f k [] buffer e l m long =

@@ -14,7 +14,7 @@ use Rattle.totals.specs.declared.Totals.{Totals}
 use Rattle.layout.specs.declared.Shape.{Shape}
 use Rattle.sheet.specs.SheetLaws.{sheet-hours-whole}
 use Rattle.sheet.specs.Sheet.{sheetHour, shapeOf, sheetHours}
-use Rattle.writer.specs.Recorded.{recordedHour, recordedHours}
+use Rattle.writer.specs.Recorded.{recordedHour, recordedHours, reportHours}
 use Rattle.records.specs.Room.{HourFits}
 use Rattle.writer.specs.HourLines.{hourLines, hoursLines}
 use Rattle.writer.specs.Writable.{Fits}
@@ -22,28 +22,26 @@ use Rattle.writer.specs.Writable.{Fits}
 -- the running totals
 module _ (sheet : List ℕ) (n k : ℕ) (totals : Totals) where
   abbrev pub totalsLeft : Totals
-  totalsLeft = runningTotals totals (recordedHours (ranked (sheetHour sheet) k (n - k)))
+  totalsLeft = runningTotals totals (recordedHours (reportHours (ranked (sheetHour sheet) k (n - k))))
 
   pub totals-more : (grown : Totals) → k < n → grown ≡ withHour totals (recordedHour (sheetHour sheet k) .figures) (recordedHour (sheetHour sheet k) .time)
-      → runningTotals grown (recordedHours (ranked (sheetHour sheet) (k + 1) (n - (k + 1)))) ≡ totalsLeft
-  unfolding recordedHours
+      → runningTotals grown (recordedHours (reportHours (ranked (sheetHour sheet) (k + 1) (n - (k + 1))))) ≡ totalsLeft
   totals-more grown h e =
-      let rest = recordedHours (ranked (sheetHour sheet) (k + 1) (n - (k + 1))) in
+      let rest = recordedHours (reportHours (ranked (sheetHour sheet) (k + 1) (n - (k + 1)))) in
       rw (ranked-next (sheetHour sheet) n k h, e) (sym (running-next totals (recordedHour (sheetHour sheet k)) rest))
 
   pub totals-end : n ≤ k → totalsLeft ≡ totals
-  unfolding recordedHours
   totals-end h = rw (ranked-end (sheetHour sheet) n k h) (running-end totals)
 
 -- the lines
 module _ (year quarter : ℕ) (name sheet : List ℕ) (s : Shape) (k : ℕ) (buffer : List ℕ) where
   abbrev pub linesLeft : List ℕ
-  linesLeft = hoursLines year quarter name s k (ranked (sheetHour sheet) k (s .hours - k)) buffer
+  linesLeft = hoursLines year quarter name s k (reportHours (ranked (sheetHour sheet) k (s .hours - k))) buffer
 
   abbrev pub withHourLines : List ℕ
   withHourLines = hourLines name s k (stampOf year quarter (sheetHour sheet k .hour)) (recordedHour (sheetHour sheet k)) (hourly order) buffer
 
-  pub lines-more : k < s .hours → hoursLines year quarter name s (k + 1) (ranked (sheetHour sheet) (k + 1) (s .hours - (k + 1))) withHourLines ≡ linesLeft
+  pub lines-more : k < s .hours → hoursLines year quarter name s (k + 1) (reportHours (ranked (sheetHour sheet) (k + 1) (s .hours - (k + 1)))) withHourLines ≡ linesLeft
   unfolding hoursLines
   lines-more h = rw (ranked-next (sheetHour sheet) (s .hours) k h, add-one k)
 
@@ -56,9 +54,9 @@ pub record Passed (year quarter : ℕ) (name sheet before : List ℕ) (s : Shape
   pub upTo : k ≤ s .hours
   pub room : Room totals
   pub counted : totals .hours ≡ k
-  pub totalled : totalsLeft sheet (s .hours) k totals ≡ runningTotals noTotals (recordedHours (sheetHours sheet))
+  pub totalled : totalsLeft sheet (s .hours) k totals ≡ runningTotals noTotals (recordedHours (reportHours (sheetHours sheet)))
   pub kept : length buffer ≡ length before
-  pub lines : linesLeft year quarter name sheet s k buffer ≡ hoursLines year quarter name s 0 (sheetHours sheet) before
+  pub lines : linesLeft year quarter name sheet s k buffer ≡ hoursLines year quarter name s 0 (reportHours (sheetHours sheet)) before
 
 module _ (year quarter : ℕ) (name sheet before : List ℕ) (s : Shape) (shaped : s ≡ shapeOf sheet) where
   pub passed-start : {totals : Totals} → totals ≡ noTotals → Room totals → Passed year quarter name sheet before s before totals 0
@@ -85,11 +83,11 @@ module _ (year quarter : ℕ) (name sheet before : List ℕ) (s : Shape) (shaped
       lines = rw b (lines-more year quarter name sheet s k buffer h ∙ p .lines);
     }
 
-    pub passed-end : s .hours ≤ k → (quarterOf totals ≡ quarterTotals (recordedHours (sheetHours sheet)))
-        × (buffer ≡ hoursLines year quarter name (shapeOf sheet) 0 (sheetHours sheet) before)
+    pub passed-end : s .hours ≤ k → (quarterOf totals ≡ quarterTotals (recordedHours (reportHours (sheetHours sheet))))
+        × (buffer ≡ hoursLines year quarter name (shapeOf sheet) 0 (reportHours (sheetHours sheet)) before)
     passed-end h = (
-      quarter-formed totals (recordedHours (sheetHours sheet)) (sym (totals-end sheet (s .hours) k totals h) ∙ p .totalled ∙ running-totals _),
-      sym (lines-end year quarter name sheet s k buffer h) ∙ p .lines ∙ ap (λ (s : Shape). hoursLines year quarter name s 0 (sheetHours sheet) before) shaped,
+      quarter-formed totals (recordedHours (reportHours (sheetHours sheet))) (sym (totals-end sheet (s .hours) k totals h) ∙ p .totalled ∙ running-totals _),
+      sym (lines-end year quarter name sheet s k buffer h) ∙ p .lines ∙ ap (λ (s : Shape). hoursLines year quarter name s 0 (reportHours (sheetHours sheet)) before) shaped,
     )
 
 -- a buffer of the same length has room as well

@@ -16,7 +16,6 @@ use Rattle.formulas.specs.Formulas.{roundedValue, roundedFigures}
 use Rattle.totals.specs.Totals.{totalsOf, meanOf, quarterOf, quarterTotals}
 use Rattle.sheet.specs.Sheet.{sheetHour, sheetHours}
 use Rattle.sheet.specs.SheetTests.{every, headingHolds, kindsRise, kindsHold, hourHolds, hoursRise, sheetHolds, readingsHold}
-use Rattle.writer.specs.Recorded.{recordedHours}
 use Rattle.writer.specs.Refusals.{figuresHold, refusalOf}
 use Rattle.records.specs.Records.{headed, valued, facilityRecord, totalsRecord}
 use Rattle.writer.specs.Written.{hourRecord, writtenRecords, lined, report, answered, buffered}
@@ -65,13 +64,13 @@ empty =
 pub worked-written : (answered 2005 3 stack workedSheet 382 ≡ Length 382) × (buffered 2005 3 stack workedSheet (replicate 382 0) ≡ worked)
 unfolding worked all put digitsOf digitOrBlank leading wholeWritten fixedWritten written leapYear daysInMonth daysInQuarter hoursInQuarter daysBefore
     monthOfDay dateOfHour over totalOf stampNumber stampOf roundedValue roundedFigures totalsOf meanOf quarterOf quarterTotals sheetHour ranked
-    sheetHours reportLength within recordedHours every headingHolds kindsRise kindsHold hourHolds hoursRise sheetHolds readingsHold figuresHold
+    sheetHours reportLength within every headingHolds kindsRise kindsHold hourHolds hoursRise sheetHolds readingsHold figuresHold
     refusalOf headed valued facilityRecord hourRecord totalsRecord writtenRecords lined report answered buffered
 worked-written = (refl, refl)
 
 pub empty-written : (answered 2005 3 stack [] 64 ≡ Length 64) × (buffered 2005 3 stack [] (replicate 64 0) ≡ empty)
 unfolding empty all put digitsOf digitOrBlank leading wholeWritten fixedWritten written leapYear daysInMonth daysInQuarter hoursInQuarter daysBefore
     monthOfDay dateOfHour over totalOf stampNumber stampOf roundedValue roundedFigures totalsOf meanOf quarterOf quarterTotals sheetHour ranked
-    sheetHours reportLength within recordedHours every headingHolds kindsRise kindsHold hourHolds hoursRise sheetHolds readingsHold figuresHold
+    sheetHours reportLength within every headingHolds kindsRise kindsHold hourHolds hoursRise sheetHolds readingsHold figuresHold
     refusalOf headed valued facilityRecord hourRecord totalsRecord writtenRecords lined report answered buffered
 empty-written = (refl, refl)

@@ -7,8 +7,7 @@ use Rattle.stamp.specs.Stamp.{stampOf}
 use Rattle.formulas.specs.declared.hour.Hour.{Hour}
 use Rattle.layout.specs.declared.RecordType.{RecordType}
 use Rattle.layout.specs.declared.Shape.{Shape}
-use Rattle.sheet.specs.declared.SheetHour.{SheetHour}
-use Rattle.writer.specs.Recorded.{recordedHour}
+use Rattle.writer.specs.Recorded.{ReportHour}
 use Rattle.records.specs.Records.{ended, datedRecord}
 
 -- the lines of hour k, one of each of these types, put at their offsets
@@ -17,7 +16,7 @@ hourLines name s k date h [] buffer = buffer
 hourLines name s k date h (t ∷ ts) buffer = hourLines name s k date h ts (put (offsetOf s t k + 1) (ended (datedRecord name t date h)) buffer)
 
 -- those of some hours, from hour k on
-unfoldable pub hoursLines : ℕ → ℕ → List ℕ → Shape → ℕ → List SheetHour → List ℕ → List ℕ
+unfoldable pub hoursLines : ℕ → ℕ → List ℕ → Shape → ℕ → List ReportHour → List ℕ → List ℕ
 hoursLines year quarter name s k [] buffer = buffer
 hoursLines year quarter name s k (h ∷ hs) buffer =
-    hoursLines year quarter name s (suc k) hs (hourLines name s k (stampOf year quarter (h .hour)) (recordedHour h) (hourly order) buffer)
+    hoursLines year quarter name s (suc k) hs (hourLines name s k (stampOf year quarter (h .hour)) (h .recorded) (hourly order) buffer)

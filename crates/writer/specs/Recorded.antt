@@ -1,12 +1,23 @@
--- The hours of a sheet as they are recorded: the figures are the formulas of the readings, rounded.
-use mathlib.Core.List.{List, [], _∷_}
+-- The hours of a report: each with its hour of the quarter and what is recorded of it. Those of a sheet have the formulas of their
+-- readings, rounded, as figures.
+use Prim.Native.Nat.{ℕ}
+use mathlib.Core.List.{List, map}
 use Rattle.formulas.specs.Formulas.{roundedFigures}
 use Rattle.formulas.specs.declared.hour.Hour.{Hour}
 use Rattle.sheet.specs.declared.SheetHour.{SheetHour}
 
+pub record ReportHour : Type 0 where
+  pub hour : ℕ
+  pub recorded : Hour
+
+abbrev pub recordedHours : List ReportHour → List Hour
+recordedHours hs = map (λ (h : ReportHour). h .recorded) hs
+
 abbrev pub recordedHour : SheetHour → Hour
 recordedHour h = record { time = h .time; readings = h .readings; figures = roundedFigures (h .readings) }
 
-unfoldable pub recordedHours : List SheetHour → List Hour
-recordedHours [] = []
-recordedHours (h ∷ hs) = recordedHour h ∷ recordedHours hs
+abbrev pub reportHour : SheetHour → ReportHour
+reportHour h = record { hour = h .hour; recorded = recordedHour h }
+
+abbrev pub reportHours : List SheetHour → List ReportHour
+reportHours hs = map reportHour hs

@@ -20,12 +20,17 @@ use Rattle.layout.specs.declared.Run.the-variants.{Once, Hourly}
 use Rattle.layout.specs.declared.RecordType.{RecordType}
 use Rattle.layout.specs.declared.RecordType.the-variants.{Facility, QuarterTotals}
 use Rattle.layout.specs.declared.Shape.{Shape}
-use Rattle.sheet.specs.declared.SheetHour.{SheetHour}
-use Rattle.writer.specs.Recorded.{recordedHours}
+use Rattle.sheet.specs.Sheet.{sheetHourCount, sheetHours}
+use Rattle.sheet.specs.SheetLaws.{sheet-hours-count}
+use Rattle.writer.specs.Recorded.{ReportHour, recordedHours, reportHour, reportHours}
 use Rattle.records.specs.Records.{ended, facilityRecord, totalsRecord}
 use Rattle.writer.specs.Written.{hourRecord, onceRecord, runRecords, writtenRecords, lined, report}
 use Rattle.records.specs.RecordLaws.{facility-length, totals-length, facility-printable, totals-printable}
 use Rattle.writer.specs.LineLaws.{hour-length, hour-printable}
+
+-- a sheet's hours
+pub report-hours-count : (sheet : List ℕ) → length (reportHours (sheetHours sheet)) ≡ sheetHourCount sheet
+report-hours-count sheet = length-map (sheetHours sheet) reportHour ∙ sheet-hours-count sheet
 
 pub ended-length : (line : List ℕ) {n : ℕ} → length line ≡ n → length (ended line) ≡ n + 1
 ended-length line e = length-append line (10 ∷ []) ∙ omega arith
@@ -48,11 +53,11 @@ module _ (size : ℕ) where
       let n : (size + 1) * suc k ≡ length (ended r) + (size + 1) * k = omega (arith, ended-length r (e .0)) in
       rw n (drop-append-add (ended r) (lined rs) ((size + 1) * k) ∙ lined-drop rs k (e .1) (omega arith))
 
-module _ (year quarter : ℕ) (name : List ℕ) (hours : List SheetHour) where
+module _ (year quarter : ℕ) (name : List ℕ) (hours : List ReportHour) where
   -- what holds of line 100, of line 301 and of the hours' records holds of every record
   pub records-each : (P : RecordType → List ℕ → Type 0) → P Facility (facilityRecord year quarter name)
       → P QuarterTotals (totalsRecord name (quarterTotals (recordedHours hours)))
-      → ((t : RecordType) → recordOf t .run ≡ Hourly → (h : SheetHour) → P t (hourRecord year quarter name t h))
+      → ((t : RecordType) → recordOf t .run ≡ Hourly → (h : ReportHour) → P t (hourRecord year quarter name t h))
       → (t : RecordType) → All (P t) (writtenRecords year quarter name hours t)
   unfolding writtenRecords
   records-each P first totals each t = go (recordOf t .run) refl
@@ -61,7 +66,7 @@ module _ (year quarter : ℕ) (name : List ℕ) (hours : List SheetHour) where
       one (inl e) = rw e first
       one (inr e) = rw e totals
 
-      ofHours : recordOf t .run ≡ Hourly → (hs : List SheetHour) → All (P t) (map (hourRecord year quarter name t) hs)
+      ofHours : recordOf t .run ≡ Hourly → (hs : List ReportHour) → All (P t) (map (hourRecord year quarter name t) hs)
       ofHours e [] = tt
       ofHours e (h ∷ hs) = (each t e h, ofHours e hs)
 

@@ -1,4 +1,4 @@
--- The report of a sheet, byte by byte; the writer's answer, and the lent buffer afterwards.
+-- A report, byte by byte; the writer's answer to a sheet, and the lent buffer afterwards.
 use Prim.Native.Nat.{ℕ, zero, suc}
 use mathlib.Core.Bool.{cond}
 use mathlib.Core.List.{List, [], _∷_, _++_, map}
@@ -37,18 +37,17 @@ use Rattle.layout.specs.declared.RecordType.the-variants.{
   Co2Mass,
 }
 use Rattle.sheet.specs.Sheet.{shapeOf, sheetHours}
-use Rattle.sheet.specs.declared.SheetHour.{SheetHour}
 use Rattle.records.specs.Records.{ended, facilityRecord, datedRecord, totalsRecord}
-use Rattle.writer.specs.Recorded.{recordedHour, recordedHours}
+use Rattle.writer.specs.Recorded.{ReportHour, recordedHours, reportHours}
 use Rattle.writer.specs.Refusals.{refusalOf}
 use Rattle.writer.specs.declared.Written.{Written}
 use Rattle.writer.specs.declared.Written.the-variants.{Length, Refused}
 
-unfoldable pub hourRecord : ℕ → ℕ → List ℕ → RecordType → SheetHour → List ℕ
-hourRecord year quarter name t h = datedRecord name t (stampOf year quarter (h .hour)) (recordedHour h)
+unfoldable pub hourRecord : ℕ → ℕ → List ℕ → RecordType → ReportHour → List ℕ
+hourRecord year quarter name t h = datedRecord name t (stampOf year quarter (h .hour)) (h .recorded)
 
 -- the record of a type that a report has once: that of line 100 or that of line 301
-abbrev pub onceRecord : ℕ → ℕ → List ℕ → List SheetHour → RecordType → List ℕ
+abbrev pub onceRecord : ℕ → ℕ → List ℕ → List ReportHour → RecordType → List ℕ
 onceRecord year quarter name hours t =
     cond (eqb (codeOf t) (codeOf Facility)) (facilityRecord year quarter name) (totalsRecord name (quarterTotals (recordedHours hours)))
 
@@ -58,7 +57,7 @@ runRecords Once one ofHours = one ∷ []
 runRecords Hourly one ofHours = ofHours
 
 -- the records of a type in a report
-unfoldable pub writtenRecords : ℕ → ℕ → List ℕ → List SheetHour → RecordType → List (List ℕ)
+unfoldable pub writtenRecords : ℕ → ℕ → List ℕ → List ReportHour → RecordType → List (List ℕ)
 writtenRecords year quarter name hours t = runRecords (recordOf t .run) (onceRecord year quarter name hours t) (map (hourRecord year quarter name t) hours)
 
 -- records as lines, one after the other
@@ -67,7 +66,7 @@ lined [] = []
 lined (r ∷ rs) = ended r ++ lined rs
 
 -- the lines of each type, in the order of a report
-unfoldable pub report : ℕ → ℕ → List ℕ → List SheetHour → List ℕ
+unfoldable pub report : ℕ → ℕ → List ℕ → List ReportHour → List ℕ
 report year quarter name hours = joinedRuns (λ t. lined (writtenRecords year quarter name hours t)) order
 
 -- to a sheet and a buffer of so many bytes
@@ -79,6 +78,6 @@ answered year quarter name sheet room =
 unfoldable pub buffered : ℕ → ℕ → List ℕ → List ℕ → List ℕ → List ℕ
 buffered year quarter name sheet buffer =
     elim (refusalOf year quarter name sheet (length buffer)) [
-      | zero ↦ report year quarter name (sheetHours sheet) ++ drop (reportLength (shapeOf sheet)) buffer
+      | zero ↦ report year quarter name (reportHours (sheetHours sheet)) ++ drop (reportLength (shapeOf sheet)) buffer
       | suc c ↦ buffer
     ]

@@ -13,7 +13,7 @@ ghost use Rattle.layout.specs.Layout.{dateWidth, order, hourly};
 ghost use Rattle.records.specs.Room.{HourFits};
 ghost use Rattle.sheet.specs.Sheet.{shapeOf, sheetHours};
 ghost use Rattle.totals.specs.Totals.{quarterTotals};
-ghost use Rattle.writer.specs.Recorded.{recordedHour, recordedHours};
+ghost use Rattle.writer.specs.Recorded.{recordedHour, recordedHours, reportHours};
 ghost use Rattle.writer.specs.Writable.{Fits};
 ghost use Rattle.writer.specs.Written.{report};
 ghost use Rattle.writer.specs.HourLines.{hourLines, hoursLines};
@@ -49,9 +49,9 @@ fn write_hour_lines(buffer: &mut [u8], name: &[u8], s: Shape, k: usize, date: u6
 // The lines of all hours; returns the totals that they form.
 fn write_hours(buffer: &mut [u8], name: &[u8], sheet: &[u32], year: u64, quarter: u64) -> Quarter
     requires { ⌜ Fits year quarter (now name) (now sheet) (now buffer) ⌝ }
-    ensures { λ r. ⌜ (r ≡ quarterTotals (recordedHours (sheetHours (now (sheet .entry)))))
+    ensures { λ r. ⌜ (r ≡ quarterTotals (recordedHours (reportHours (sheetHours (now (sheet .entry))))))
         × (now (buffer .exit)
-        ≡ hoursLines year quarter (now (name .entry)) (shapeOf (now (sheet .entry))) 0 (sheetHours (now (sheet .entry))) (now (buffer .entry))) ⌝ }
+        ≡ hoursLines year quarter (now (name .entry)) (shapeOf (now (sheet .entry))) 0 (reportHours (sheetHours (now (sheet .entry)))) (now (buffer .entry))) ⌝ }
 {
     let s = sheet::shape_of(sheet);
     let mut totals = Totals::none();
@@ -69,7 +69,7 @@ fn write_hours(buffer: &mut [u8], name: &[u8], sheet: &[u32], year: u64, quarter
 
 pub fn write_report(buffer: &mut [u8], name: &[u8], sheet: &[u32], year: u64, quarter: u64)
     requires { ⌜ Fits year quarter (now name) (now sheet) (now buffer) ⌝ }
-    ensures { λ _. ⌜ now (buffer .exit) ≡ put 1 (report year quarter (now (name .entry)) (sheetHours (now (sheet .entry)))) (now (buffer .entry)) ⌝ }
+    ensures { λ _. ⌜ now (buffer .exit) ≡ put 1 (report year quarter (now (name .entry)) (reportHours (sheetHours (now (sheet .entry))))) (now (buffer .entry)) ⌝ }
 {
     records::write_facility(buffer, name, year, quarter);
     let totals = write_hours(buffer, name, sheet, year, quarter);

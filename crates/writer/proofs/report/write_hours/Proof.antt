@@ -16,7 +16,7 @@ use Rattle.layout.specs.declared.Shape.{Shape}
 use Rattle.sheet.specs.Sheet.{sheetHourCount}
 use Rattle.sheet.specs.declared.SheetHour.{SheetHour}
 use Rattle.writer.specs.HourLines.{hourLines}
-use Rattle.writer.specs.Recorded.{recordedHour}
+use Rattle.writer.specs.Recorded.{recordedHour, reportHour}
 use Rattle.writer.specs.Writable.{HourWritable}
 use Rattle.writer.proofs.Hours.{Passed, passed-start, passed-more, passed-end}
 use Rattle.writer.proofs.report.write_hours.Statement.{statement}
@@ -66,7 +66,7 @@ below c = omega (arith, c .if1 .taken, counted (shaped (turn c)))
 
 -- and it can be written
 writable : (c : tie.After-hour-at Inv-loop μ-loop) →
-    let x = start (shaped (turn (due c))) .args in HourWritable (x .year) (x .quarter) (c .hour-at .result)
+    let x = start (shaped (turn (due c))) .args in HourWritable (x .year) (x .quarter) (reportHour (c .hour-at .result))
 writable c = let t = turn (due c) in rw (← c .hour-at .ensures) at (start (shaped t) .pre .writable .hours (t .loop .k) (below (due c)))
 
 -- what is recorded lies in its ranges
