@@ -6,7 +6,7 @@ use mathlib.Core.Bool.{Bool, true, false}
 use mathlib.Core.Logic.{_⊎_, inl, inr, ⊎-elim}
 use native.Mathlib.Omega.{arith}
 use lib.Dec.{eqb, lit≤}
-use borrow.Author.Tests.{eqb-true, eq-eqb}
+use borrow.Author.Tests.{eqb-true, eqb-false, eq-eqb}
 use Rattle.exact.specs.Logic.{ranked, All}
 use Rattle.formulas.specs.Formulas.{passesTest}
 use Rattle.formulas.specs.declared.hour.Hour.{Hour}
@@ -18,6 +18,7 @@ use Rattle.lines.specs.FaultLaws.{or-zero, unless-none}
 use Rattle.reading.specs.Recorded.{hourAt}
 use Rattle.checker.specs.Checked.{refusedAt, quantities, quantityAt, numberFor, lineFor, judgedFigures}
 use Rattle.checker.specs.Checked.{judgedHours, Stated, statedTotals, firstDiffering, totalsFault, verdict, comparedTotals}
+use Rattle.checker.specs.Promise.{FirstDiffers}
 use Rattle.checker.specs.declared.Answer.{Answer}
 use Rattle.checker.specs.declared.Answer.the-variants.{Accepted, Refused}
 
@@ -140,11 +141,30 @@ number-low So2 = omega arith
 number-low Nox = omega arith
 number-low Co2 = omega arith
 
+-- a refusal that is not a figure's comes after the hours
+figures-over : (qs : List Quantity) (file : List ℕ) (k : ℕ) (h : Hour) (rest : Answer) (number line : ℕ) → 15 ≤ number →
+    judgedFigures qs file k h rest ≡ refusedAt number line → rest ≡ refusedAt number line
+unfolding judgedFigures
+figures-over [] file k h rest number line b e = e
+figures-over (q ∷ qs) file k h rest number line b e = go (passesTest q h) e (figures-over qs file k h rest number line b)
+  where
+    go : (t : Bool) → elim t [ true ↦ judgedFigures qs file k h rest | false ↦ refusedAt (numberFor q) (lineFor file q k) ] ≡ refusedAt number line →
+        (judgedFigures qs file k h rest ≡ refusedAt number line → rest ≡ refusedAt number line) → rest ≡ refusedAt number line
+    go true w ih = ih w
+    go false w ih = absurd (omega (arith, number-low q, same-number (numberFor q) (lineFor file q k) number line w .0))
+
+pub hours-over : (file : List ℕ) (k : ℕ) (hs : List Hour) (rest : Answer) (number line : ℕ) → 15 ≤ number →
+    judgedHours file k hs rest ≡ refusedAt number line → rest ≡ refusedAt number line
+unfolding judgedHours
+hours-over file k [] rest number line b e = e
+hours-over file k (h ∷ hs) rest number line b e =
+    hours-over file (suc k) hs rest number line b (figures-over quantities file k h (judgedHours file (suc k) hs rest) number line b e)
+
 -- the totals: accepted where all agree, with the totals formed; never refused with a figure's number
 abbrev pub Agree : Quarter → Quarter → Type 0
 Agree f s = All (λ (t : Stated). t .amount f ≡ t .amount s) statedTotals
 
-numbers-high : All (λ (t : Stated). 15 ≤ t .number) statedTotals
+pub numbers-high : All (λ (t : Stated). 15 ≤ t .number) statedTotals
 numbers-high = (lit≤ tt, (lit≤ tt, (lit≤ tt, (lit≤ tt, tt))))
 
 pub all-agree : (ts : List Stated) {f s : Quarter} → f ≡ s → All (λ (t : Stated). t .amount f ≡ t .amount s) ts
@@ -176,6 +196,22 @@ module _ (f s : Quarter) where
       high false zero rest k g = absurd (omega arith)
       high false (suc n) rest k g = λ x. k
 
+  -- a fault of the totals is that of the first that differs
+  first-differs : (ts : List Stated) → All (λ (t : Stated). 15 ≤ t .number) ts → (number : ℕ) → 1 ≤ number → firstDiffering ts f s ≡ number →
+      FirstDiffers ts f s number
+  unfolding firstDiffering
+  first-differs [] h number b e = absurd (omega arith)
+  first-differs (t ∷ ts) h number b e = go (eqb (t .amount f) (t .amount s)) refl e (first-differs ts (h .1) number b)
+    where
+      found : (n rest : ℕ) → 15 ≤ n → (n orElse rest) ≡ number → number ≡ n
+      found zero rest k w = absurd (omega arith)
+      found (suc n) rest k w = sym w
+
+      go : (same : Bool) → eqb (t .amount f) (t .amount s) ≡ same → (unless same (t .number) orElse firstDiffering ts f s) ≡ number →
+          (firstDiffering ts f s ≡ number → FirstDiffers ts f s number) → FirstDiffers (t ∷ ts) f s number
+      go true q w ih = inr (eqb-true _ _ q, ih w)
+      go false q w ih = inl (found (t .number) (firstDiffering ts f s) (h .0) w, eqb-false _ _ q)
+
   module _ (line : ℕ) where
     pub totals-accepted : (r : Quarter) → comparedTotals line f s ≡ Accepted r → (f ≡ r) × Agree f s
     unfolding comparedTotals
@@ -188,6 +224,16 @@ module _ (f s : Quarter) where
     pub totals-agree : Agree f s → comparedTotals line f s ≡ Accepted f
     unfolding comparedTotals
     totals-agree a = ap (λ (n : ℕ). verdict n line f) (agree-fault statedTotals a)
+
+    pub totals-differ : (number at : ℕ) → comparedTotals line f s ≡ refusedAt number at → (at ≡ line) × FirstDiffers statedTotals f s number
+    unfolding comparedTotals
+    totals-differ number at e = go (totalsFault f s) refl e
+      where
+        go : (n : ℕ) → totalsFault f s ≡ n → verdict n line f ≡ refusedAt number at → (at ≡ line) × FirstDiffers statedTotals f s number
+        go zero z w = never-accepted number at f (sym w)
+        go (suc n) z w =
+            let a = same-number (suc n) line number at w in
+            (sym (a .1), first-differs statedTotals numbers-high number (omega (arith, a .0)) (z ∙ a .0))
 
     pub totals-refused : (q : Quantity) (at : ℕ) → comparedTotals line f s ≡ refusedAt (numberFor q) at → ⊥
     unfolding comparedTotals

@@ -1,25 +1,28 @@
 -- What the check promises of its answer to a file, in the words of the paper: every honest report is accepted; behind every accepted
--- file stand unrounded readings; whichever they are, the exact amounts lie within the stated bounds of the reported ones; and a
--- figure is refused only where nothing unrounded lies behind it. PromiseLaws.antt proves it.
+-- file stand unrounded readings; whichever they are, the exact amounts lie within the stated bounds of the reported ones; a figure is
+-- refused only where nothing unrounded lies behind it, and a total only where it differs from the one formed. PromiseLaws.antt proves it.
 use Prim.Native.Nat.{ℕ, _<_}
 use mathlib.Core.Path.{_≡_}
 use mathlib.Core.List.{List, [], _∷_}
 use lib.Dec.{lit<}
+use mathlib.Core.Logic.{_⊎_}
 use lib.ListN.{length}
+use Rattle.exact.specs.Logic.{All}
 use Rattle.exact.specs.Fraction.{Fraction, _⊕_, _⊗_, _÷_, fraction, whole, Near}
 use Rattle.exact.specs.Rounding.{recorded}
 use Rattle.formulas.specs.Hour.{tenth, thousandth, Unrounded}
 use Rattle.formulas.specs.Formulas.{Pair, pairOf, exactValue, LiesBehind}
 use Rattle.totals.specs.Totals.{poundsPerTon, quarterTotals}
+use Rattle.layout.specs.declared.RecordType.the-variants.{QuarterTotals}
 use Rattle.formulas.specs.declared.hour.Hour.{Hour}
 use Rattle.formulas.specs.declared.hour.Quantity.{Quantity}
 use Rattle.formulas.specs.declared.hour.Quantity.the-variants.{Heat, So2, Nox, Co2}
 use Rattle.totals.specs.declared.Quarter.{Quarter}
 use Rattle.reading.specs.Reading.{readOf}
-use Rattle.reading.specs.Recorded.{hourCount, hourAt, hoursOf, totalsIn}
+use Rattle.reading.specs.Recorded.{recordAt, hourCount, hourAt, hoursOf, totalsIn}
 use Rattle.reading.specs.declared.Reading.the-variants.{Clean}
 use Rattle.reading.specs.declared.Report.{Report}
-use Rattle.checker.specs.Checked.{acceptance, refusal, numbersOf, numberFor, lineFor}
+use Rattle.checker.specs.Checked.{Stated, statedTotals, acceptance, refusal, numbersOf, numberFor, lineFor}
 use Rattle.checker.specs.declared.Answer.{Answer}
 
 -- a list lies behind a quantity's hourly figures: one pair of readings for each hour, in order, each behind its hour's figure
@@ -86,11 +89,26 @@ pub record FailsAt (file : List ℕ) (q : Quantity) (line : ℕ) : Type 0 where
   pub own : line ≡ lineFor file q hour
   pub nothing : (p : Pair) → LiesBehind q (hourAt file hour) p → ⊥
 
+-- of some totals, left to right, the first that differs from the one formed is that of this number
+abbrev pub FirstDiffers : List Stated → (formed said : Quarter) → ℕ → Type 0
+FirstDiffers [] formed said number = ⊥
+FirstDiffers (t ∷ ts) formed said number =
+    ((number ≡ t .number) × (t .amount formed ≡ t .amount said → ⊥)) ⊎ ((t .amount formed ≡ t .amount said) × FirstDiffers ts formed said number)
+
+-- line 301 states another total than the one formed, and those before it as they are formed
+pub record DiffersAt (file : List ℕ) (number line : ℕ) : Type 0 where
+  pub report : Report
+  pub clean : readOf file ≡ Clean report
+  pub own : line ≡ recordAt file QuarterTotals 0 .number
+  pub first : FirstDiffers statedTotals (quarterTotals (hoursOf file)) (totalsIn file) number
+
 pub record Promise (file : List ℕ) (answer : Answer) : Type 0 where
   pub honest : (sets : List Unrounded) → HonestlyRounded file sets → (r : Quarter) × (numbersOf answer ≡ acceptance r)
   pub behind : (r : Quarter) → numbersOf answer ≡ acceptance r → (q : Quantity) → (ps : List Pair) × LieBehind q (hoursOf file) ps
   pub bounds : (r : Quarter) → numbersOf answer ≡ acceptance r → (q : Quantity) (ps : List Pair) → LieBehind q (hoursOf file) ps →
       Near (exactAmount q (hoursOf file) ps) (reported q r) (allowed q (r .hours))
   pub rightly : (q : Quantity) (line : ℕ) → numbersOf answer ≡ refusal (numberFor q) line → FailsAt file q line
+  pub differs : All (λ (t : Stated). (line : ℕ) → numbersOf answer ≡ refusal (t .number) line → DiffersAt file (t .number) line) statedTotals
   pub count : (r : Quarter) → numbersOf answer ≡ acceptance r → r .hours ≡ hourCount file
+  pub formed : (r : Quarter) → numbersOf answer ≡ acceptance r → r ≡ quarterTotals (hoursOf file)
   pub totals : (r : Quarter) → numbersOf answer ≡ acceptance r → r ≡ totalsIn file

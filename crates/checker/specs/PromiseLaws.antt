@@ -1,11 +1,11 @@
 -- The promise holds of what the check answers to every file. Promise.antt states it.
-use Prim.Native.Nat.{ℕ, _+_}
+use Prim.Native.Nat.{ℕ, _+_, _≤_}
 use mathlib.Core.Path.{_≡_, refl, sym, ap, subst₂, _∙_}
 use mathlib.Core.List.{List, [], _∷_}
 use mathlib.Core.Logic.{_⊎_, ⊎-elim}
 use native.Mathlib.Omega.{arith}
 use lib.ListN.{length, getD}
-use Rattle.exact.specs.Logic.{ranked-length, ranked-all}
+use Rattle.exact.specs.Logic.{ranked-length, All, ranked-all}
 use Rattle.exact.specs.Fraction.{Near}
 use Rattle.formulas.specs.Hour.{HourWithin, HoursWithin, Unrounded}
 use Rattle.formulas.specs.Formulas.{Pair, pairOf}
@@ -24,10 +24,10 @@ use Rattle.reading.specs.RefusalLaws.{refused-number}
 use Rattle.reading.specs.declared.Report.{Report}
 use Rattle.reading.specs.declared.Reading.{Reading}
 use Rattle.reading.specs.declared.Reading.the-variants.{Clean, Refused as Stopped}
-use Rattle.checker.specs.Checked.{statedTotals, acceptance, refusal, numbersOf, refusedAt, numberFor, comparedTotals, judged, afterReading, checked}
-use Rattle.checker.specs.Promise.{LieBehind, SetsBehind, HonestlyRounded, exactAmount, reported, allowed, FailsAt, Promise}
-use Rattle.checker.specs.JudgedLaws.{never-accepted, Passes, AllPass, hours-accepted, hours-pass, Failing, hours-refused}
-use Rattle.checker.specs.JudgedLaws.{Agree, all-agree, totals-accepted, totals-agree, totals-refused, number-high}
+use Rattle.checker.specs.Checked.{Stated, statedTotals, acceptance, refusal, numbersOf, refusedAt, numberFor, comparedTotals, judged, afterReading, checked}
+use Rattle.checker.specs.Promise.{LieBehind, SetsBehind, HonestlyRounded, exactAmount, reported, allowed, FailsAt, DiffersAt, Promise}
+use Rattle.checker.specs.JudgedLaws.{never-accepted, same-number, Passes, AllPass, hours-accepted, hours-pass, Failing, hours-refused, hours-over}
+use Rattle.checker.specs.JudgedLaws.{numbers-high, Agree, all-agree, totals-accepted, totals-agree, totals-differ, totals-refused, number-high}
 use Rattle.checker.specs.BoundLaws.{amount-bound}
 use Rattle.checker.specs.declared.Answer.{Answer}
 use Rattle.checker.specs.declared.Answer.the-variants.{Accepted, Refused}
@@ -118,6 +118,18 @@ refused-rightly file q line e = go (readOf file) refl e
         (λ z. absurd (totals-refused (quarterTotals (hoursOf file)) (totalsIn file) (recordAt file QuarterTotals 0 .number) q line z))
         (hours-refused file 0 (hourCount file) (comparedTotals (recordAt file QuarterTotals 0 .number) (quarterTotals (hoursOf file)) (totalsIn file)) q line w)
 
+refused-total : (file : List ℕ) (number line : ℕ) → 15 ≤ number → checked file ≡ refusedAt number line → DiffersAt file number line
+unfolding checked afterReading judged
+refused-total file number line b e = go (readOf file) refl e
+  where
+    go : (x : Reading) → readOf file ≡ x → afterReading file x ≡ refusedAt number line → DiffersAt file number line
+    go (Stopped x) c w = absurd (omega (arith, refused-number file x c, same-number (x .number) (x .line) number line w .0))
+    go (Clean report) c w =
+        let said = recordAt file QuarterTotals 0 .number in
+        let formed = quarterTotals (hoursOf file) in
+        let t = totals-differ formed (totalsIn file) said number line (hours-over file 0 (hoursOf file) _ number line b w) in
+        record { report = report; clean = c; own = t .0; first = t .1 }
+
 module _ (file : List ℕ) (r : Quarter) (e : checked file ≡ Accepted r) where
   accepted-within : HoursWithin (hoursOf file)
   accepted-within = let f = accepted-facts file r e in all-within file (f .report) (clean-file file (f .report) (f .clean))
@@ -160,6 +172,13 @@ promise file =
       behind = λ r e. accepted-behind file r (yes r e);
       bounds = λ r e. accepted-bounds file r (yes r e);
       rightly = λ q line e. refused-rightly file q line (refuses (checked file) (numberFor q) line e);
+      differs = each statedTotals numbers-high;
       count = λ r e. accepted-count file r (yes r e);
+      formed = λ r e. sym (accepted-facts file r (yes r e) .formed);
       totals = λ r e. accepted-totals file r (yes r e);
     }
+  where
+    each : (ts : List Stated) → All (λ (t : Stated). 15 ≤ t .number) ts →
+        All (λ (t : Stated). (line : ℕ) → numbersOf (checked file) ≡ refusal (t .number) line → DiffersAt file (t .number) line) ts
+    each [] h = tt
+    each (t ∷ ts) h = ((λ line e. refused-total file (t .number) line (h .0) (refuses (checked file) (t .number) line e)), each ts (h .1))

@@ -10,8 +10,8 @@ use Rattle.totals.specs.declared.Quarter.{Quarter}
 use Rattle.reading.specs.declared.Refusal.{Refusal}
 use Rattle.checker.specs.Checked.{checked}
 use Rattle.checker.specs.declared.Answer.the-variants.{Accepted, Refused}
-use Rattle.writer.specs.Written.{answered, buffered}
-use Rattle.edr_c.specs.Boundary.{checkCode, checkFilled, writtenCode, writeCode, writeFilled}
+use Rattle.writer.specs.Written.{writtenNumber, answered, buffered}
+use Rattle.edr_c.specs.Boundary.{checkCode, checkFilled, writeCode, writeFilled}
 
 set-two : (l : List ℕ) (a b : ℕ) → 5 ≤ length l → set (set l 0 a) 1 b ≡ a ∷ b ∷ drop 2 l
 set-two [] a b h = absurd (omega arith)
@@ -61,7 +61,7 @@ module _ (year quarter : ℕ) (name sheet buffer : List ℕ) where
 
   -- what the writer answers and leaves for the six bytes is what it does for the name
   pub named : (letters : List ℕ) (code : ℕ) (exit : List ℕ) → letters ≡ name → length name ≡ stackWidth →
-      code ≡ writtenCode (answered year quarter letters sheet (length buffer)) → exit ≡ buffered year quarter letters sheet buffer →
+      code ≡ writtenNumber (answered year quarter letters sheet (length buffer)) → exit ≡ buffered year quarter letters sheet buffer →
       (code ≡ writeCode year quarter name sheet buffer) × (exit ≡ writeFilled year quarter name sheet buffer)
   unfolding writeCode writeFilled
   named letters code exit l e c x = (rw (eq-eqb (length name) stackWidth e, writeCode, ← l) c, rw (eq-eqb (length name) stackWidth e, writeFilled, ← l) x)

@@ -8,9 +8,7 @@ use Rattle.layout.specs.Layout.{stackWidth}
 use Rattle.checker.specs.Checked.{numbersOf, checked}
 use Rattle.checker.specs.declared.Answer.{Answer}
 use Rattle.checker.specs.declared.Answer.the-variants.{Accepted, Refused}
-use Rattle.writer.specs.Written.{answered, buffered}
-use Rattle.writer.specs.declared.Written.{Written}
-use Rattle.writer.specs.declared.Written.the-variants.{Length, Refused as Unwritten}
+use Rattle.writer.specs.Written.{writtenNumber, answered, buffered}
 
 abbrev pub answerCode : Answer → ℕ
 answerCode (Accepted r) = 1
@@ -26,13 +24,9 @@ checkCode file buffer = elim (ltb (length buffer) 5) [ true ↦ 2 | false ↦ an
 unfoldable pub checkFilled : List ℕ → List ℕ → List ℕ
 checkFilled file buffer = elim (ltb (length buffer) 5) [ true ↦ buffer | false ↦ filled (checked file) buffer ]
 
-abbrev pub writtenCode : Written → ℕ
-writtenCode (Length n) = n
-writtenCode (Unwritten number) = number
-
 unfoldable pub writeCode : ℕ → ℕ → List ℕ → List ℕ → List ℕ → ℕ
 writeCode year quarter name sheet buffer =
-    elim (eqb (length name) stackWidth) [ false ↦ 31 | true ↦ writtenCode (answered year quarter name sheet (length buffer)) ]
+    elim (eqb (length name) stackWidth) [ false ↦ 31 | true ↦ writtenNumber (answered year quarter name sheet (length buffer)) ]
 
 unfoldable pub writeFilled : ℕ → ℕ → List ℕ → List ℕ → List ℕ → List ℕ
 writeFilled year quarter name sheet buffer = elim (eqb (length name) stackWidth) [ false ↦ buffer | true ↦ buffered year quarter name sheet buffer ]

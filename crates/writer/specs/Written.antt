@@ -69,6 +69,11 @@ lined (r ∷ rs) = ended r ++ lined rs
 unfoldable pub report : ℕ → ℕ → List ℕ → List ReportHour → List ℕ
 report year quarter name hours = joinedRuns (λ t. lined (writtenRecords year quarter name hours t)) order
 
+-- what an answer says, as the paper has it: the length written, or the refusal's number alone
+abbrev pub writtenNumber : Written → ℕ
+writtenNumber (Length n) = n
+writtenNumber (Refused number) = number
+
 -- to a sheet and a buffer of so many bytes
 unfoldable pub answered : ℕ → ℕ → List ℕ → List ℕ → ℕ → Written
 answered year quarter name sheet room =

@@ -1,6 +1,6 @@
 -- `edr_c::edr_write` meets its contract: six bytes are handed on as the name.
 use mathlib.Core.Path.{sym, ap, _∙_}
-use Rattle.edr_c.specs.Boundary.{writtenCode}
+use Rattle.writer.specs.Written.{writtenNumber}
 use Rattle.edr_c.proofs.Filling.{six, no-name, named}
 use borrow.Author.Needs.{needs}
 use Rattle.edr_c.proofs.edr_write.Statement.{statement}
@@ -58,7 +58,7 @@ returns-2 c =
     let l = six-bytes w .if1 .left in
     let a = start (six-bytes w .before) .args in
     named (a .year) (a .quarter) (a .name .now) (a .sheet .now) (a .buffer .now) _ _ _ (six (a .name .now) l) l
-    (ap writtenCode (sym (c .before .length .given .1) ∙ w .write .ensures .0)) (w .write .ensures .1)
+    (ap writtenNumber (sym (c .before .length .given .1) ∙ w .write .ensures .0)) (w .write .ensures .1)
 
 same-length-2 : tie.Need-same-length-2
 same-length-2 c = search needs
@@ -69,7 +69,7 @@ returns-3 c =
     let l = six-bytes w .if1 .left in
     let a = start (six-bytes w .before) .args in
     named (a .year) (a .quarter) (a .name .now) (a .sheet .now) (a .buffer .now) _ _ _ (six (a .name .now) l) l
-    (ap writtenCode (sym (c .before .number .given .1) ∙ w .write .ensures .0)) (w .write .ensures .1)
+    (ap writtenNumber (sym (c .before .number .given .1) ∙ w .write .ensures .0)) (w .write .ensures .1)
 
 pub edr-write-spec : {M : Type 1} → statement M
 edr-write-spec =
