@@ -8,7 +8,14 @@ ghost use lib.ListN.{length};
 ghost use Rattle.columns.specs.Columns.{put};
 ghost use Rattle.checker.specs.Checked.{checked};
 ghost use Rattle.printing.specs.Printed.{printed, longestLine};
-ghost use Rattle.edr_check.specs.Input.{sizeOf};
+ghost use Rattle.edr_check.specs.Input.{ReadTo, inputOf};
+
+// What the reads of standard input came to: so many bytes of report, and what the last read returned. That is the one that brought
+// nothing, or, behind a report that fills its buffer, the read of one byte more.
+struct Reads {
+    size: usize,
+    last: isize,
+}
 
 // What standard input held: a report of so many bytes, more than fits, or what a read refused.
 enum Input {
@@ -17,38 +24,35 @@ enum Input {
     Unreadable,
 }
 
-// What stands behind a report that fills its buffer: nothing, or one byte at least.
-fn behind(size: usize) -> Input
-    ensures { λ r. ⌜ sizeOf r ≤ size ⌝ }
-{
-    let mut byte = [0u8; 1];
-    let got = libc::read(STDIN_FILENO, &mut byte);
-    if got < 0 {
-        return Input::Unreadable;
-    }
-    if got == 0 {
-        return Input::Report(size);
-    }
-    Input::TooLong
-}
-
 // Reads until the input ends or one byte more than the report holds has come.
-fn read_input(report: &mut [u8]) -> Input
-    ensures { λ r. ⌜ sizeOf r ≤ length (now (report .entry)) ⌝ }
+fn read_report(report: &mut [u8]) -> Reads
+    ensures { λ r. ⌜ ReadTo (length (now (report .entry))) r ⌝ }
 {
     let mut size = 0;
     while size < report.len() {
         let got = libc::read(STDIN_FILENO, &mut report[size..]);
-        if got < 0 {
-            return Input::Unreadable;
-        }
         let more = io::count(got, &report[size..]);
         if more == 0 {
-            return Input::Report(size);
+            return Reads { size, last: got };
         }
         size += more;
     }
-    behind(size)
+    let mut byte = [0u8; 1];
+    let last = libc::read(STDIN_FILENO, &mut byte);
+    Reads { size, last }
+}
+
+// What it is taken for.
+fn input_of(size: usize, last: isize) -> Input
+    ensures { λ r. ⌜ r ≡ inputOf size last ⌝ }
+{
+    if last < 0 {
+        return Input::Unreadable;
+    }
+    if last > 0 {
+        return Input::TooLong;
+    }
+    Input::Report(size)
 }
 
 // The line that says what the check answers to a report. Returns its length.
@@ -62,7 +66,8 @@ fn answer_line(report: &[u8], line: &mut [u8]) -> usize
 
 fn main() {
     let mut report: [u8; 65536] = [0; 65536];
-    match read_input(&mut report) {
+    let reads = read_report(&mut report);
+    match input_of(reads.size, reads.last) {
         Input::Report(size) => {
             let mut line = [0u8; 128];
             let length = answer_line(&report[..size], &mut line);

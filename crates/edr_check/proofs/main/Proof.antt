@@ -1,15 +1,20 @@
 -- The report that was read lies within the buffer, and the line within the room for it.
+use mathlib.Core.Path.{sym, _∙_}
 use native.Mathlib.Omega.{arith}
 use borrow.Author.Needs.{needs}
 use lib.ListN.{length-take}
+use Rattle.edr_check.specs.InputLaws.{report-size}
 use Rattle.edr_check.proofs.main.Statement.{statement}
 use Rattle.edr_check.proofs.main.Tie as tie
 
-slice-aggregate-read-input : tie.Need-slice-aggregate-read-input
-slice-aggregate-read-input c = search needs
+slice-aggregate-read-report : tie.Need-slice-aggregate-read-report
+slice-aggregate-read-report c = search needs
 
-read-input-requires : tie.Need-read-input-requires
-read-input-requires c κs = search needs
+read-report-requires : tie.Need-read-report-requires
+read-report-requires c κs = search needs
+
+input-of-requires : tie.Need-input-of-requires
+input-of-requires c κs = search needs
 
 enum-known-size : tie.Need-enum-known-size
 enum-known-size c = search needs
@@ -17,8 +22,10 @@ enum-known-size c = search needs
 array-share-prefix-report : tie.Need-array-share-prefix-report
 array-share-prefix-report c =
     let s = c .before in
-    let within = rw (s .size .given .1) at (s .before .before .before .read-input .ensures) in
-    omega arith
+    let i = s .before .before in
+    let r = i .before .before .before in
+    let came = report-size _ _ _ (sym (s .size .given .1) ∙ i .input-of .ensures) in
+    omega (arith, came, r .read-report .ensures .within)
 
 slice-aggregate-answer-line : tie.Need-slice-aggregate-answer-line
 slice-aggregate-answer-line c = let within = array-share-prefix-report (c .before) in simp length-take (omega arith)
@@ -69,8 +76,9 @@ pub main-spec : {M : Type 1} → statement M
 main-spec =
     tie.close
     (tie.spec
-    slice-aggregate-read-input
-    read-input-requires
+    slice-aggregate-read-report
+    read-report-requires
+    input-of-requires
     enum-known-size
     array-share-prefix-report
     slice-aggregate-answer-line
