@@ -5,3 +5,5 @@ pub mod LineFaults
 pub mod FaultLaws
 pub mod Beginning
 pub mod NumberLaws
+pub mod Shows
+pub mod ShowsLaws
