@@ -2,7 +2,7 @@
 use Prim.Native.Nat.{ℕ, zero, suc, _+_, _-_, _≤_, _<_}
 use mathlib.Core.Path.{_≡_, refl, sym, ap, _∙_}
 use mathlib.Core.List.{List, [], _∷_}
-use mathlib.Core.Bool.{Bool, true, false}
+use mathlib.Core.Bool.{Bool, true, false, false≢true}
 use mathlib.Core.Logic.{_⊎_, inl, inr, ⊎-elim}
 use native.Mathlib.Omega.{arith}
 use lib.Dec.{eqb, lit≤}
@@ -15,6 +15,7 @@ use Rattle.formulas.specs.declared.hour.Quantity.the-variants.{Heat, So2, Nox, 
 use Rattle.totals.specs.declared.Quarter.{Quarter}
 use Rattle.lines.specs.LineFaults.{_orElse_, unless}
 use Rattle.lines.specs.FaultLaws.{or-zero, unless-none}
+use Rattle.lines.specs.Shows.{ofLineChecks}
 use Rattle.reading.specs.Recorded.{hourAt}
 use Rattle.checker.specs.Checked.{refusedAt, quantities, quantityAt, numberFor, lineFor, judgedFigures}
 use Rattle.checker.specs.Checked.{judgedHours, Stated, statedTotals, firstDiffering, totalsFault, verdict, comparedTotals}
@@ -243,9 +244,12 @@ module _ (f s : Quarter) where
         go zero h w = never-accepted (numberFor q) at f (sym w)
         go (suc n) h w = omega (arith, number-low q, same-number (suc n) line (numberFor q) at w .0, h (omega arith))
 
--- a refusal with at most 10 is not that of a figure
-pub number-high : (q : Quantity) (number at line : ℕ) → refusedAt number at ≡ refusedAt (numberFor q) line → number ≤ 10 → ⊥
-number-high Heat number at line e h = omega (arith, same-number number at 11 line e .0)
-number-high So2 number at line e h = omega (arith, same-number number at 12 line e .0)
-number-high Nox number at line e h = omega (arith, same-number number at 13 line e .0)
-number-high Co2 number at line e h = omega (arith, same-number number at 14 line e .0)
+-- a refusal of the line checks is not that of a figure
+pub number-high : (q : Quantity) (number at line : ℕ) → refusedAt number at ≡ refusedAt (numberFor q) line → ofLineChecks number ≡ true → ⊥
+number-high q number at line e h = apart q (rw (same-number number at (numberFor q) line e .0) at h)
+  where
+    apart : (q : Quantity) → ofLineChecks (numberFor q) ≡ true → ⊥
+    apart Heat = false≢true
+    apart So2 = false≢true
+    apart Nox = false≢true
+    apart Co2 = false≢true

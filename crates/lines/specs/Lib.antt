@@ -4,6 +4,5 @@ pub mod EndLaws
 pub mod LineFaults
 pub mod FaultLaws
 pub mod Beginning
-pub mod NumberLaws
 pub mod Shows
 pub mod ShowsLaws

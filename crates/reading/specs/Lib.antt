@@ -1,9 +1,11 @@
 pub mod Reading
 pub mod Recorded
+pub mod RecordedLaws
 pub mod Places
 pub mod CleanLaws
 pub mod HoursLaws
 pub mod RunLaws
 pub mod RecordLaws
 pub mod CleanFile
+pub mod Refuses
 pub mod RefusalLaws

@@ -110,10 +110,10 @@ module _ (file : List ℕ) (s : Shape) (d : Standing file s) (t : RecordType) (k
       let v = value-inside t i b in
       rw (record-at, columns-of-line file (offsetOf s t k) (lengthOf t) (valueAt t i .start) (valueAt t i .width) (v .first) (v .last))
 
+-- as many of a type as the shape says
+pub records-standing : (file : List ℕ) (s : Shape) → Standing file s → (t : RecordType) → length (recordsOf file t) ≡ countOf s t
+records-standing file s d t =
+    rw (d .records t, numbered-length (linesAt file t (offsetOf s t 0) (countOf s t)) (lineOf s t 0)) (lines-count file t (countOf s t) (offsetOf s t 0))
+
 pub hours-standing : (file : List ℕ) (s : Shape) → Standing file s → hourCount file ≡ s .hours
-hours-standing file s d =
-    rw (
-      d .records So2Concentration,
-      numbered-length (linesAt file So2Concentration (offsetOf s So2Concentration 0) (s .hours))
-          (lineOf s So2Concentration 0),
-    ) (lines-count file So2Concentration (s .hours) (offsetOf s So2Concentration 0))
+hours-standing file s d = records-standing file s d So2Concentration

@@ -1,5 +1,6 @@
 -- What the lines of a report say: the records of each type in file order, each with its line, and the hours and totals recorded on them.
 use Prim.Native.Nat.{ℕ, suc}
+use mathlib.Core.Path.{_≡_}
 use mathlib.Core.List.{List, [], _∷_}
 use mathlib.Core.Bool.{Bool, true, false}
 use lib.ListN.{length, getD}
@@ -11,7 +12,7 @@ use Rattle.layout.specs.declared.RecordType.the-variants.{So2Concentration, Nox
 use Rattle.layout.specs.declared.RecordType.the-variants.{QuarterTotals, So2Mass, NoxRate, Co2Mass}
 use Rattle.formulas.specs.declared.hour.Hour.{Hour}
 use Rattle.totals.specs.declared.Quarter.{Quarter}
-use Rattle.lines.specs.Lines.{lines}
+use Rattle.lines.specs.Lines.{lines, HasLine, textOf}
 use Rattle.lines.specs.LineFaults.{typeIs, fieldIn}
 
 -- a line of a file: its place among the lines, from 1, and its columns
@@ -28,6 +29,11 @@ linesWith test number (l ∷ ls) =
 -- the records of a type
 unfoldable pub recordsOf : List ℕ → RecordType → List Line
 recordsOf file t = linesWith (typeIs t) 1 (lines file)
+
+-- the line of this number is one of them
+pub record HasRecord (file : List ℕ) (t : RecordType) (line : ℕ) : Type 0 where
+  pub stands : HasLine file line
+  pub type : typeIs t (textOf file line) ≡ true
 
 -- the record of rank k, from 0
 abbrev pub recordAt : List ℕ → RecordType → ℕ → Line

@@ -1,81 +1,140 @@
--- The line checks refuse with the numbers 1 to 10 only.
-use Prim.Native.Nat.{ℕ, zero, suc, _+_, _≤_}
-use mathlib.Core.Path.{_≡_, refl}
+-- What the line checks refuse is of a row of the table. Refuses.antt has the rows.
+use Prim.Native.Nat.{ℕ, zero, suc, _+_, _-_}
+use mathlib.Core.Path.{_≡_, refl, sym, ap, _∙_}
 use mathlib.Core.List.{List, [], _∷_, _++_}
 use mathlib.Core.Bool.{Bool, true, false}
-use lib.Dec.{eqb, lit≤}
+use native.Mathlib.Omega.{arith}
+use lib.Dec.{eqb}
+use lib.ListN.{length, length-append}
+use lib.Seq.{append-snoc, getD-at}
+use borrow.Author.Tests.{eqb-false}
 use Rattle.layout.specs.declared.RecordType.the-variants.{So2Concentration}
-use Rattle.lines.specs.Lines.{lines, last}
-use Rattle.lines.specs.LineFaults.{typeIs, facilityLine, dateOn, hourLine, Due, dueFault}
-use Rattle.lines.specs.NumberLaws.{facility-number, hour-number, due-le}
+use Rattle.lines.specs.Lines.{lines, last, HasLine, textOf}
+use Rattle.lines.specs.LineFaults.{typeIs, periodOn, facilityLine, dateOn, hourLine, Due, dueFault}
+use Rattle.lines.specs.FaultLaws.{facility-said}
+use Rattle.lines.specs.Shows.{Shows, ofLineChecks}
+use Rattle.lines.specs.Shows.Shows.{otherType}
+use Rattle.lines.specs.ShowsLaws.{facility-shows, hour-shows, due-shows, shows-number}
 use Rattle.lines.specs.declared.Period.{Period}
 use Rattle.lines.specs.declared.FacilityLine.{FacilityLine}
 use Rattle.lines.specs.declared.FacilityLine.the-variants.{Of, Faulty as FaultyFacility}
 use Rattle.lines.specs.declared.HourLine.{HourLine}
 use Rattle.lines.specs.declared.HourLine.the-variants.{At, Faulty as FaultyHour}
 use Rattle.reading.specs.Reading.{stoppedAt, laterTypes, runsOf, reportOf, walkDue, walkLater, walkHours, walk, readOf}
+use Rattle.reading.specs.Refuses.{Refuses}
+use Rattle.reading.specs.Refuses.Refuses.{unended, faulty, missing}
 use Rattle.reading.specs.declared.Report.{Report}
 use Rattle.reading.specs.declared.Refusal.{Refusal}
 use Rattle.reading.specs.declared.Reading.{Reading}
 use Rattle.reading.specs.declared.Reading.the-variants.{Clean, Refused}
 
--- a reading that is clean, or refuses with at most 10
-abbrev Low : Reading → Type 0
-Low (Clean r) = Unit {0}
-Low (Refused r) = r .number ≤ 10
+-- the lines of a file from `line` on
+record LinesFrom (file : List ℕ) (line : ℕ) (ls : List (List ℕ)) : Type 0 where
+  before : List (List ℕ)
+  split : lines file ≡ before ++ ls
+  place : line ≡ length before + 1
 
-stop-or : (f : ℕ) (line : ℕ) (next : Reading) → f ≤ 10 → Low next → Low (elim f [ zero ↦ next | suc c ↦ stoppedAt (suc c) line ])
-stop-or zero line next h n = n
-stop-or (suc f) line next h n = h
+-- a reading that is clean, or refuses by a row
+abbrev ByRow : List ℕ → Reading → Type 0
+ByRow file (Clean r) = Unit {0}
+ByRow file (Refused r) = Refuses file (r .number) (r .line)
 
-due-low : (report : Report) (facility : List ℕ) (line : ℕ) (due : List Due) (ls : List (List ℕ)) → Low (walkDue report facility line due ls)
-unfolding walkDue
-due-low report facility line [] [] = tt
-due-low report facility line [] (l ∷ ls) = lit≤ tt
-due-low report facility line (d ∷ ds) [] = lit≤ tt
-due-low report facility line (d ∷ ds) (l ∷ ls) =
-    stop-or (dueFault facility d l) line (walkDue report facility (line + 1) ds ls) (due-le facility d l) (due-low report facility (line + 1) ds ls)
+module _ (file : List ℕ) where
+  from-start : LinesFrom file 1 (lines file)
+  from-start = record { before = []; split = refl; place = refl }
 
-later-low : (facility : List ℕ) (period : Period) (line : ℕ) (dates ls : List (List ℕ)) → Low (walkLater facility period line dates ls)
-unfolding walkLater
-later-low facility period line dates ls = due-low (reportOf period dates) facility line (runsOf laterTypes dates) ls
+  from-end : (line : ℕ) → LinesFrom file line [] → line ≡ length (lines file) + 1
+  from-end line w = omega (arith, w .place, ap length (w .split), length-append (w .before) [])
 
-either : (t : Bool) (a b : Reading) → Low a → Low b → Low (elim t [ false ↦ a | true ↦ b ])
-either false a b h k = h
-either true a b h k = k
+  module _ (line : ℕ) (l : List ℕ) (ls : List (List ℕ)) (w : LinesFrom file line (l ∷ ls)) where
+    from-line : HasLine file line
+    from-line = record {
+      first = omega (arith, w .place);
+      last = omega (arith, w .place, ap length (w .split), length-append (w .before) (l ∷ ls));
+    }
 
-hours-low : (facility : List ℕ) (period : Period) (ls : List (List ℕ)) (line from : ℕ) (dates : List (List ℕ)) →
-    Low (walkHours facility period line from dates ls)
-unfolding walkHours
-hours-low facility period [] line from dates = later-low facility period line dates []
-hours-low facility period (x ∷ ls) line from dates =
-    either (typeIs So2Concentration x) (walkLater facility period line dates (x ∷ ls)) _ (later-low facility period line dates (x ∷ ls))
-    (go (hourLine facility period from x) refl (λ hour. hours-low facility period ls (line + 1) (hour + 1) (dates ++ (dateOn x ∷ []))))
-  where
-    next : ℕ → Reading
-    next hour = walkHours facility period (line + 1) (hour + 1) (dates ++ (dateOn x ∷ [])) ls
+    from-text : textOf file line ≡ l
+    from-text = rw (w .split) (getD-at (w .before) l ls [] (line - 1) (omega (arith, w .place)))
 
-    go : (h : HourLine) → hourLine facility period from x ≡ h → ((hour : ℕ) → Low (next hour)) →
-        Low (elim h [ At hour ↦ next hour | FaultyHour number ↦ stoppedAt number line ])
-    go (At hour) e ih = ih hour
-    go (FaultyHour number) e ih = hour-number facility period from x number e
+    from-next : LinesFrom file (line + 1) ls
+    from-next = record {
+      before = w .before ++ (l ∷ []);
+      split = w .split ∙ sym (append-snoc (w .before) l ls);
+      place = omega (arith, w .place, length-append (w .before) (l ∷ []));
+    }
 
-walk-low : (ls : List (List ℕ)) → Low (walk ls)
+module _ (file facility : List ℕ) (first : textOf file 1 ≡ facility) where
+  -- a fault of the line that is next
+  next-row : (line : ℕ) (l : List ℕ) (ls : List (List ℕ)) → LinesFrom file line (l ∷ ls) → (number : ℕ) → Shows facility l number → Refuses file number line
+  next-row line l ls w number s = faulty number line (from-line file line l ls w) (rw (first, from-text file line l ls w) s)
+
+  due-row : (report : Report) (line : ℕ) (due : List Due) (ls : List (List ℕ)) → LinesFrom file line ls → ByRow file (walkDue report facility line due ls)
+  unfolding walkDue
+  due-row report line [] [] w = tt
+  due-row report line [] (l ∷ ls) w = next-row line l ls w 2 otherType
+  due-row report line (d ∷ ds) [] w = rw (from-end file line w) missing
+  due-row report line (d ∷ ds) (l ∷ ls) w = go (dueFault facility d l) refl (due-row report (line + 1) ds ls (from-next file line l ls w))
+    where
+      next : Reading
+      next = walkDue report facility (line + 1) ds ls
+
+      go : (f : ℕ) → dueFault facility d l ≡ f → ByRow file next → ByRow file (elim f [ zero ↦ next | suc c ↦ stoppedAt (suc c) line ])
+      go zero e n = n
+      go (suc c) e n = next-row line l ls w (suc c) (due-shows facility d l c e)
+
+  later-row : (period : Period) (line : ℕ) (dates ls : List (List ℕ)) → LinesFrom file line ls → ByRow file (walkLater facility period line dates ls)
+  unfolding walkLater
+  later-row period line dates ls w = due-row (reportOf period dates) line (runsOf laterTypes dates) ls w
+
+  hours-row : (ls : List (List ℕ)) (line from : ℕ) (dates : List (List ℕ)) → LinesFrom file line ls →
+      ByRow file (walkHours facility (periodOn facility) line from dates ls)
+  unfolding walkHours
+  hours-row [] line from dates w = later-row (periodOn facility) line dates [] w
+  hours-row (l ∷ ls) line from dates w =
+      either (typeIs So2Concentration l) _
+      (go (hourLine facility (periodOn facility) from l) refl
+      (λ hour. hours-row ls (line + 1) (hour + 1) (dates ++ (dateOn l ∷ [])) (from-next file line l ls w)))
+    where
+      next : ℕ → Reading
+      next hour = walkHours facility (periodOn facility) (line + 1) (hour + 1) (dates ++ (dateOn l ∷ [])) ls
+
+      go : (h : HourLine) → hourLine facility (periodOn facility) from l ≡ h → ((hour : ℕ) → ByRow file (next hour)) →
+          ByRow file (elim h [ At hour ↦ next hour | FaultyHour number ↦ stoppedAt number line ])
+      go (At hour) e n = n hour
+      go (FaultyHour number) e n = next-row line l ls w number (hour-shows facility from l number e)
+
+      later : Reading
+      later = walkLater facility (periodOn facility) line dates (l ∷ ls)
+
+      either : (t : Bool) (r : Reading) → ByRow file r → ByRow file (elim t [ false ↦ later | true ↦ r ])
+      either false r n = later-row (periodOn facility) line dates (l ∷ ls) w
+      either true r n = n
+
+walk-row : (file : List ℕ) (ls : List (List ℕ)) → LinesFrom file 1 ls → ByRow file (walk ls)
 unfolding walk
-walk-low [] = lit≤ tt
-walk-low (l ∷ ls) = go (facilityLine l) refl
+walk-row file [] w = rw (from-end file 1 w) missing
+walk-row file (l ∷ ls) w = go (facilityLine l) refl
   where
-    go : (f : FacilityLine) → facilityLine l ≡ f → Low (elim f [ Of period ↦ walkHours l period 2 0 [] ls | FaultyFacility number ↦ stoppedAt number 1 ])
-    go (Of period) e = hours-low l period ls 2 0 []
-    go (FaultyFacility number) e = facility-number l number e
+    go : (f : FacilityLine) → facilityLine l ≡ f →
+        ByRow file (elim f [ Of period ↦ walkHours l period 2 0 [] ls | FaultyFacility number ↦ stoppedAt number 1 ])
+    go (Of period) e = rw (← facility-said l period e .1) (hours-row file l (from-text file 1 l ls w) ls 2 0 [] (from-next file 1 l ls w))
+    go (FaultyFacility number) e = next-row file l (from-text file 1 l ls w) 1 l ls w number (facility-shows l number e)
 
-read-low : (file : List ℕ) → Low (readOf file)
+read-row : (file : List ℕ) → ByRow file (readOf file)
 unfolding readOf
-read-low file = go (eqb (last file) 10)
+read-row file = go (eqb (last file) 10) refl
   where
-    go : (t : Bool) → Low (elim t [ true ↦ walk (lines file) | false ↦ stoppedAt 1 0 ])
-    go true = walk-low (lines file)
-    go false = lit≤ tt
+    go : (t : Bool) → eqb (last file) 10 ≡ t → ByRow file (elim t [ true ↦ walk (lines file) | false ↦ stoppedAt 1 0 ])
+    go true e = walk-row file (lines file) (from-start file)
+    go false e = unended (eqb-false (last file) 10 e)
 
-pub refused-number : (file : List ℕ) (r : Refusal) → readOf file ≡ Refused r → r .number ≤ 10
-refused-number file r e = rw e at (read-low file)
+pub refused-shows : (file : List ℕ) (r : Refusal) → readOf file ≡ Refused r → Refuses file (r .number) (r .line)
+refused-shows file r e = rw e at (read-row file)
+
+pub refuses-number : {file : List ℕ} {number line : ℕ} → Refuses file number line → ofLineChecks number ≡ true
+refuses-number (unended e) = refl
+refuses-number (faulty number line h s) = shows-number s
+refuses-number missing = refl
+
+pub refused-number : (file : List ℕ) (r : Refusal) → readOf file ≡ Refused r → ofLineChecks (r .number) ≡ true
+refused-number file r e = refuses-number (refused-shows file r e)
