@@ -7,7 +7,7 @@ use native.Mathlib.Omega.{arith}
 use native.Mathlib.Numerals.{add-one}
 use lib.ListN.{drop}
 use Rattle.exact.specs.Logic.{ranked, ranked-next, ranked-end}
-use Rattle.layout.specs.Layout.{lineOf, countOf}
+use Rattle.layout.specs.Layout.{lineOf}
 use Rattle.formulas.specs.Formulas.{passesTest}
 use Rattle.totals.specs.Totals.{Room, noTotals, withHour, runningTotals, totalsOf, quarterOf, quarterTotals}
 use Rattle.totals.specs.TotalLaws.{grown-hours, running-totals, running-next, running-end, quarter-formed}
@@ -15,25 +15,19 @@ use Rattle.layout.specs.declared.RecordType.the-variants.{QuarterTotals}
 use Rattle.layout.specs.declared.Shape.{Shape}
 use Rattle.formulas.specs.declared.hour.Hour.{Hour}
 use Rattle.formulas.specs.declared.hour.Quantity.{Quantity}
-use Rattle.formulas.specs.declared.hour.Quantity.the-variants.{Heat, So2, Nox, Co2}
 use Rattle.totals.specs.declared.Totals.{Totals}
 use Rattle.totals.specs.declared.Quarter.{Quarter}
 use Rattle.reading.specs.Recorded.{Line, recordAt, hourCount, hourAt, hoursOf, totalsIn}
 use Rattle.reading.specs.Places.{Standing}
 use Rattle.reading.specs.RecordLaws.{record-at, hours-standing}
 use Rattle.checker.specs.Checked.{refusedAt, quantities, quantityAt, numberFor, typeFor, lineFor, judgedFigures, judgedHours, comparedTotals, judged}
+use Rattle.checker.specs.JudgedLaws.{figure-hourly}
 use Rattle.checker.specs.declared.Answer.{Answer}
 
 -- the lines of the figures and of the totals, where the layout has them
 module _ (file : List ℕ) (s : Shape) (d : Standing file s) where
   pub figure-line : (q : Quantity) (k : ℕ) → k < s .hours → lineOf s (typeFor q) k ≡ lineFor file q k
-  figure-line q k h = sym (ap (λ (l : Line). l .number) (record-at file s d (typeFor q) k (hourly q h)))
-    where
-      hourly : (q : Quantity) → k < s .hours → k < countOf s (typeFor q)
-      hourly Heat h = h
-      hourly So2 h = h
-      hourly Nox h = h
-      hourly Co2 h = h
+  figure-line q k h = sym (ap (λ (l : Line). l .number) (record-at file s d (typeFor q) k (omega (arith, figure-hourly s q))))
 
   pub totals-line : lineOf s QuarterTotals 0 ≡ recordAt file QuarterTotals 0 .number
   totals-line = sym (ap (λ (l : Line). l .number) (record-at file s d QuarterTotals 0 (omega arith)))

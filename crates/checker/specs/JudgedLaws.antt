@@ -9,6 +9,8 @@ use lib.Dec.{eqb, lit≤}
 use borrow.Author.Tests.{eqb-true, eqb-false, eq-eqb}
 use Rattle.exact.specs.Logic.{ranked, All}
 use Rattle.formulas.specs.Formulas.{passesTest}
+use Rattle.layout.specs.Layout.{countOf}
+use Rattle.layout.specs.declared.Shape.{Shape}
 use Rattle.formulas.specs.declared.hour.Hour.{Hour}
 use Rattle.formulas.specs.declared.hour.Quantity.{Quantity}
 use Rattle.formulas.specs.declared.hour.Quantity.the-variants.{Heat, So2, Nox, Co2}
@@ -17,7 +19,7 @@ use Rattle.lines.specs.LineFaults.{_orElse_, unless}
 use Rattle.lines.specs.FaultLaws.{or-zero, unless-none}
 use Rattle.lines.specs.Shows.{ofLineChecks}
 use Rattle.reading.specs.Recorded.{hourAt}
-use Rattle.checker.specs.Checked.{refusedAt, quantities, quantityAt, numberFor, lineFor, judgedFigures}
+use Rattle.checker.specs.Checked.{refusedAt, quantities, quantityAt, numberFor, typeFor, lineFor, judgedFigures}
 use Rattle.checker.specs.Checked.{judgedHours, Stated, statedTotals, firstDiffering, totalsFault, verdict, comparedTotals}
 use Rattle.checker.specs.Promise.{FirstDiffers}
 use Rattle.checker.specs.declared.Answer.{Answer}
@@ -253,3 +255,10 @@ number-high q number at line e h = apart q (rw (same-number number at (numberFor
     apart So2 = false≢true
     apart Nox = false≢true
     apart Co2 = false≢true
+
+-- every hour has a line of a figure's type
+pub figure-hourly : (s : Shape) (q : Quantity) → countOf s (typeFor q) ≡ s .hours
+figure-hourly s Heat = refl
+figure-hourly s So2 = refl
+figure-hourly s Nox = refl
+figure-hourly s Co2 = refl

@@ -4,4 +4,6 @@ pub mod Promise
 pub mod JudgedLaws
 pub mod BoundLaws
 pub mod PromiseLaws
+pub mod Table
+pub mod TableLaws
 pub mod Examples

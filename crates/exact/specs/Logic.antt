@@ -1,7 +1,8 @@
 -- Small logic for the crates above: two tests joined, lists by the rank of their members, a statement of every member.
 use mathlib.Core.Path.{_≡_, refl, ap}
 use mathlib.Core.Bool.{Bool, true, false, _&&_, true-and, false-and, false≢true}
-use mathlib.Core.List.{List, [], _∷_, map}
+use mathlib.Core.Logic.{⊎-elim}
+use mathlib.Core.List.{List, [], _∷_, map, List·Memᴰ, List·Memᴰ·not-nil, List·Memᴰ·cases-cons}
 use Prim.Native.Nat.{ℕ, zero, suc, _+_, _-_, _≤_, _<_}
 use native.Mathlib.Nat.{le-of-suc-le-suc, not-suc-le-zero}
 use native.Mathlib.Omega.{arith}
@@ -54,6 +55,11 @@ pub all-at : {A : Type 0} (P : A → Type 0) (xs : List A) (none : A) (k : ℕ) 
 all-at P [] none k a h = absurd (not-suc-le-zero h)
 all-at P (x ∷ xs) none zero a h = a .0
 all-at P (x ∷ xs) none (suc k) a h = all-at P xs none k (a .1) (le-of-suc-le-suc h)
+
+-- any member
+pub all-member : {A : Type 0} (P : A → Type 0) (xs : List A) (x : A) → All P xs → List·Memᴰ x xs → P x
+all-member P [] x a m = absurd (List·Memᴰ·not-nil m)
+all-member P (y ∷ ys) x a m = ⊎-elim (λ e. rw e (a .0)) (λ n. all-member P ys x (a .1) n) (List·Memᴰ·cases-cons m)
 
 pub mapped-at : {A : Type 0} {B : Type 0} (f : A → B) (xs : List A) (none : A) (other : B) (k : ℕ) → k < length xs →
     getD (map f xs) k other ≡ f (getD xs k none)

@@ -1,0 +1,26 @@
+-- The table of what the check answers to a file: a row for an acceptance, and one for each pass that refuses, with the line that it
+-- names. TableLaws.antt proves that every answer is of one of them. Why a figure is refused, Promise.antt says.
+use Prim.Native.Nat.{ℕ}
+use mathlib.Core.List.{List, List·Memᴰ}
+use mathlib.Core.Bool.{Bool, _&&_, _||_}
+use lib.Dec.{leb}
+use Rattle.layout.specs.declared.RecordType.the-variants.{QuarterTotals}
+use Rattle.formulas.specs.declared.hour.Quantity.{Quantity}
+use Rattle.totals.specs.declared.Quarter.{Quarter}
+use Rattle.lines.specs.Shows.{ofLineChecks}
+use Rattle.reading.specs.Recorded.{HasRecord}
+use Rattle.reading.specs.Refuses.{Refuses}
+use Rattle.checker.specs.Checked.{Stated, statedTotals, acceptance, refusal, numberFor, typeFor}
+
+pub data InTable (file : List ℕ) : List ℕ → Type 0 where
+  accepted : (r : Quarter) → InTable file (acceptance r)
+  -- 1 to 10: the file or a line
+  ofLines : (number line : ℕ) → Refuses file number line → InTable file (refusal number line)
+  -- 11 to 14: a figure, on a line of its type
+  ofFigure : (q : Quantity) (line : ℕ) → HasRecord file (typeFor q) line → InTable file (refusal (numberFor q) line)
+  -- 21 to 24: a total, on line 301
+  ofTotal : (t : Stated) (line : ℕ) → List·Memᴰ t statedTotals → HasRecord file QuarterTotals line → InTable file (refusal (t .number) line)
+
+-- the numbers of the table
+abbrev pub ofCheck : ℕ → Bool
+ofCheck number = ofLineChecks number || (leb 11 number && leb number 14) || (leb 21 number && leb number 24)
