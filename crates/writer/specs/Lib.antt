@@ -7,4 +7,6 @@ pub mod Written
 pub mod HourLines
 pub mod LineLaws
 pub mod ReportLaws
+pub mod Table
+pub mod TableLaws
 pub mod Examples
