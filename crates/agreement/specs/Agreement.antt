@@ -21,7 +21,8 @@ use Rattle.sheet.specs.declared.SheetHour.{SheetHour}
 use Rattle.writer.specs.Recorded.{ReportHour, recordedHour, recordedHours, reportHours}
 use Rattle.writer.specs.Refusals.{refusalOf}
 use Rattle.writer.specs.RefusalLaws.{not-refused}
-use Rattle.writer.specs.Written.{report, answered, buffered}
+use Rattle.writer.specs.Written.{writtenNumber, shortestReport, report, answered, buffered}
+use Rattle.writer.specs.TableLaws.{number-tells}
 use Rattle.writer.specs.ReportLaws.{report-hours-count, written-length}
 use Rattle.writer.specs.declared.Written.the-variants.{Length, Refused}
 use Rattle.agreement.specs.Reportable.{Reportable, reportable-few, writable-reportable}
@@ -62,12 +63,11 @@ module _ (year quarter : ℕ) (name sheet : List ℕ) (named : length name ≡ s
   pub formed-hours : formed hours .hours ≡ sheetHourCount sheet
   formed-hours = quarter-hours (recordedHours hours) ∙ recorded-length hours ∙ report-hours-count sheet
 
-  -- Whatever the buffer: where the writer answers a length, the check accepts that many bytes of it, with the sheet's hours.
-  pub every-written : (buffer : List ℕ) (n : ℕ) → answered year quarter name sheet (length buffer) ≡ Length n →
+  length-written : (buffer : List ℕ) (n : ℕ) → answered year quarter name sheet (length buffer) ≡ Length n →
       (numbersOf (checked (take n (buffered year quarter name sheet buffer))) ≡ acceptance (formed hours)) ×
       (formed hours .hours ≡ sheetHourCount sheet)
   unfolding answered buffered
-  every-written buffer n e = go (refusalOf year quarter name sheet (length buffer)) refl e
+  length-written buffer n e = go (refusalOf year quarter name sheet (length buffer)) refl e
     where
       go : (f : ℕ) → refusalOf year quarter name sheet (length buffer) ≡ f →
           elim f [ zero ↦ Length (reportLength (shapeOf sheet)) | suc c ↦ Refused (suc c) ] ≡ Length n →
@@ -82,3 +82,11 @@ module _ (year quarter : ℕ) (name sheet : List ℕ) (named : length name ≡ s
           let a = report-accepted year quarter name hours w (recordedSets (sheetHours sheet)) (recorded-sets-behind (sheetHours sheet)) in
           (ap numbersOf (ap checked t ∙ a), formed-hours)
       go (suc f) z v = absurd (let y : _≡_ {A = ℕ} 0 1 = cc in omega arith)
+
+  -- Whatever the buffer: where the writer answers a length, and no refusal, the check accepts that many bytes of it, with the sheet's hours.
+  pub every-written : (buffer : List ℕ) (n : ℕ) → writtenNumber (answered year quarter name sheet (length buffer)) ≡ n → shortestReport ≤ n →
+      (numbersOf (checked (take n (buffered year quarter name sheet buffer))) ≡ acceptance (formed hours)) ×
+      (formed hours .hours ≡ sheetHourCount sheet)
+  every-written buffer n e h =
+      let told = number-tells year quarter name sheet (length buffer) (omega (arith, e)) in
+      length-written buffer n (told ∙ ap Length (ap writtenNumber (sym told) ∙ e))

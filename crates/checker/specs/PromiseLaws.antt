@@ -2,6 +2,7 @@
 use Prim.Native.Nat.{ℕ, _+_, _≤_}
 use mathlib.Core.Path.{_≡_, refl, sym, ap, subst₂, _∙_}
 use mathlib.Core.List.{List, [], _∷_}
+use mathlib.Core.Bool.{false, false≢true}
 use mathlib.Core.Logic.{_⊎_, ⊎-elim}
 use native.Mathlib.Omega.{arith}
 use lib.ListN.{length, getD}
@@ -16,6 +17,7 @@ use Rattle.layout.specs.declared.RecordType.the-variants.{QuarterTotals}
 use Rattle.formulas.specs.declared.hour.Hour.{Hour}
 use Rattle.formulas.specs.declared.hour.Quantity.{Quantity}
 use Rattle.totals.specs.declared.Quarter.{Quarter}
+use Rattle.lines.specs.Shows.{ofLineChecks}
 use Rattle.reading.specs.Reading.{readOf}
 use Rattle.reading.specs.Recorded.{recordAt, hourCount, hourAt, hoursOf, totalsIn}
 use Rattle.reading.specs.CleanFile.{CleanFile, clean-file, clean-hour}
@@ -27,7 +29,7 @@ use Rattle.reading.specs.declared.Reading.the-variants.{Clean, Refused as Stopp
 use Rattle.checker.specs.Checked.{Stated, statedTotals, acceptance, refusal, numbersOf, refusedAt, numberFor, comparedTotals, judged, afterReading, checked}
 use Rattle.checker.specs.Promise.{LieBehind, SetsBehind, HonestlyRounded, exactAmount, reported, allowed, FailsAt, DiffersAt, Promise}
 use Rattle.checker.specs.JudgedLaws.{never-accepted, same-number, Passes, AllPass, hours-accepted, hours-pass, Failing, hours-refused, hours-over}
-use Rattle.checker.specs.JudgedLaws.{numbers-high, Agree, all-agree, totals-accepted, totals-agree, totals-differ, totals-refused, number-high}
+use Rattle.checker.specs.JudgedLaws.{numbers-high, numbers-apart, Agree, all-agree, totals-accepted, totals-agree, totals-differ, totals-refused, number-high}
 use Rattle.checker.specs.BoundLaws.{amount-bound}
 use Rattle.checker.specs.declared.Answer.{Answer}
 use Rattle.checker.specs.declared.Answer.the-variants.{Accepted, Refused}
@@ -118,12 +120,12 @@ refused-rightly file q line e = go (readOf file) refl e
         (λ z. absurd (totals-refused (quarterTotals (hoursOf file)) (totalsIn file) (recordAt file QuarterTotals 0 .number) q line z))
         (hours-refused file 0 (hourCount file) (comparedTotals (recordAt file QuarterTotals 0 .number) (quarterTotals (hoursOf file)) (totalsIn file)) q line w)
 
-refused-total : (file : List ℕ) (number line : ℕ) → 15 ≤ number → checked file ≡ refusedAt number line → DiffersAt file number line
+refused-total : (file : List ℕ) (number line : ℕ) → 15 ≤ number → ofLineChecks number ≡ false → checked file ≡ refusedAt number line → DiffersAt file number line
 unfolding checked afterReading judged
-refused-total file number line b e = go (readOf file) refl e
+refused-total file number line b a e = go (readOf file) refl e
   where
     go : (x : Reading) → readOf file ≡ x → afterReading file x ≡ refusedAt number line → DiffersAt file number line
-    go (Stopped x) c w = absurd (omega (arith, refused-number file x c, same-number (x .number) (x .line) number line w .0))
+    go (Stopped x) c w = absurd (false≢true (sym a ∙ rw (same-number (x .number) (x .line) number line w .0) at (refused-number file x c)))
     go (Clean report) c w =
         let said = recordAt file QuarterTotals 0 .number in
         let formed = quarterTotals (hoursOf file) in
@@ -172,13 +174,14 @@ promise file =
       behind = λ r e. accepted-behind file r (yes r e);
       bounds = λ r e. accepted-bounds file r (yes r e);
       rightly = λ q line e. refused-rightly file q line (refuses (checked file) (numberFor q) line e);
-      differs = each statedTotals numbers-high;
+      differs = each statedTotals numbers-high numbers-apart;
       count = λ r e. accepted-count file r (yes r e);
       formed = λ r e. sym (accepted-facts file r (yes r e) .formed);
       totals = λ r e. accepted-totals file r (yes r e);
     }
   where
-    each : (ts : List Stated) → All (λ (t : Stated). 15 ≤ t .number) ts →
+    each : (ts : List Stated) → All (λ (t : Stated). 15 ≤ t .number) ts → All (λ (t : Stated). ofLineChecks (t .number) ≡ false) ts →
         All (λ (t : Stated). (line : ℕ) → numbersOf (checked file) ≡ refusal (t .number) line → DiffersAt file (t .number) line) ts
-    each [] h = tt
-    each (t ∷ ts) h = ((λ line e. refused-total file (t .number) line (h .0) (refuses (checked file) (t .number) line e)), each ts (h .1))
+    each [] h a = tt
+    each (t ∷ ts) h a =
+        ((λ line e. refused-total file (t .number) line (h .0) (a .0) (refuses (checked file) (t .number) line e)), each ts (h .1) (a .1))

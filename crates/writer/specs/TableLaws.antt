@@ -1,17 +1,20 @@
--- Every answer of the writer is of a row of its table. Table.antt has the rows.
-use Prim.Native.Nat.{ℕ, zero, suc}
+-- Every answer of the writer is of a row of its table. Table.antt has the rows. Its number tells a length from a refusal.
+use Prim.Native.Nat.{ℕ, zero, suc, _≤_}
 use mathlib.Core.Path.{_≡_, refl}
 use mathlib.Core.List.{List}
 use mathlib.Core.Bool.{Bool, true, false}
 use lib.Dec.{leb}
 use borrow.Author.Tests.{leb-true, leb-false}
-use Rattle.layout.specs.Layout.{reportLength}
+use native.Mathlib.Omega.{arith}
+use Rattle.layout.specs.Layout.{shape, reportLength}
+use Rattle.layout.specs.LayoutLaws.{report-length}
 use Rattle.sheet.specs.Sheet.{shapeOf, sheetHours}
 use Rattle.sheet.specs.SheetTests.{every, sheetHolds, readingsHold}
 use Rattle.writer.specs.Refusals.{figuresFit, refusalOf}
-use Rattle.writer.specs.Written.{answered}
+use Rattle.writer.specs.Written.{writtenNumber, shortestReport, answered}
 use Rattle.writer.specs.Table.{InWriterTable}
 use Rattle.writer.specs.Table.InWriterTable.{reportWritten, misshapen, readingOutside, tooLarge, noRoom}
+use Rattle.writer.specs.declared.Written.{Written}
 use Rattle.writer.specs.declared.Written.the-variants.{Length, Refused}
 
 pub answer-in-table : (year quarter : ℕ) (name sheet : List ℕ) (room : ℕ) →
@@ -35,3 +38,15 @@ answer-in-table year quarter name sheet room =
     go true p true q false r d s = tooLarge p q r
     go true p true q true r false s = noRoom p q r (leb-false _ _ s)
     go true p true q true r true s = reportWritten p q r (leb-true _ _ s)
+
+row-tells : {year quarter : ℕ} {name sheet : List ℕ} {room : ℕ} {w : Written} → InWriterTable year quarter name sheet room w →
+    shortestReport ≤ writtenNumber w → w ≡ Length (reportLength (shapeOf sheet))
+row-tells (reportWritten a b c d) h = refl
+row-tells (misshapen a) h = absurd (omega (arith, report-length (shape 0)))
+row-tells (readingOutside a b) h = absurd (omega (arith, report-length (shape 0)))
+row-tells (tooLarge a b c) h = absurd (omega (arith, report-length (shape 0)))
+row-tells (noRoom a b c d) h = absurd (omega (arith, report-length (shape 0)))
+
+pub number-tells : (year quarter : ℕ) (name sheet : List ℕ) (room : ℕ) → shortestReport ≤ writtenNumber (answered year quarter name sheet room) →
+    answered year quarter name sheet room ≡ Length (reportLength (shapeOf sheet))
+number-tells year quarter name sheet room h = row-tells (answer-in-table year quarter name sheet room) h

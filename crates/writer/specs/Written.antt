@@ -8,6 +8,7 @@ use Rattle.layout.specs.Layout.{
   recordOf,
   codeOf,
   order,
+  shape,
   lengthOf,
   dateColumn,
   typeStart,
@@ -73,6 +74,10 @@ report year quarter name hours = joinedRuns (λ t. lined (writtenRecords year qu
 abbrev pub writtenNumber : Written → ℕ
 writtenNumber (Length n) = n
 writtenNumber (Refused number) = number
+
+-- the shortest report, which has no operating hour, is longer than a refusal's number is great: so the number tells the two apart
+abbrev pub shortestReport : ℕ
+shortestReport = reportLength (shape 0)
 
 -- to a sheet and a buffer of so many bytes
 unfoldable pub answered : ℕ → ℕ → List ℕ → List ℕ → ℕ → Written
