@@ -1,4 +1,6 @@
-/* The check and the writer of quarterly stack reports. Link with libedr_c.a, which `rt staticlib edr_c` writes to target/staticlib. */
+/* The check and the writer of quarterly stack reports, for C99 and C++11. Link with libedr_c.a, which `rt staticlib edr_c` writes to
+   target/staticlib. Behind each pointer are as many elements as the length after it says, and what a call writes to overlaps nothing
+   else that it is lent; else both calls take anything. */
 #ifndef EDR_H
 #define EDR_H
 
@@ -9,14 +11,92 @@
 extern "C" {
 #endif
 
-/* Checks a report of `length` bytes. Returns
-   1 and n, SO2, CO2, heat (tenths) and the mean NOx rate (thousandths) in answer[0] to answer[4] when it is accepted,
-   0 and the refusal's number and line in answer[0] and answer[1] when it is refused,
-   2, with nothing written, when `room` is less than 5. Elements beyond keep their values. */
+enum {
+    EDR_MOST_HOURS = 2208, /* operating hours of the longest quarter */
+    EDR_HOUR_WORDS = 6,    /* words of a sheet for an operating hour */
+    EDR_NAME_LENGTH = 6,   /* bytes of a stack name */
+    EDR_ANSWER_LENGTH = 5  /* numbers of an answer */
+};
+
+/* The bytes of a report of so many operating hours. */
+#define EDR_REPORT_LENGTH(hours) (64 + 318 * (size_t)(hours))
+
+/* What edr_check returns. */
+enum edr_outcome {
+    EDR_REFUSED = 0,         /* answer[0], answer[1]: the refusal's number and line */
+    EDR_ACCEPTED = 1,        /* answer[0] to answer[4]: operating hours, SO2, CO2 and heat in tenths, mean NOx rate in thousandths */
+    EDR_ANSWER_TOO_SHORT = 2 /* nothing is written: the room is less than EDR_ANSWER_LENGTH */
+};
+
+/* The numbers of the refusals. README.md says what to do about each. */
+enum edr_refusal {
+    /* the whole file, line 0 */
+    EDR_REFUSAL_FILE_END = 1, /* empty, or not ended by a newline */
+
+    /* a line of the file */
+    EDR_REFUSAL_RECORD_TYPE = 2,    /* not of the type that is due there, or behind the last line */
+    EDR_REFUSAL_LINE_LENGTH = 3,    /* another length than its type */
+    EDR_REFUSAL_UNPRINTABLE = 4,    /* a byte that is not printable ASCII */
+    EDR_REFUSAL_STACK_NAME = 5,     /* blank, or unlike that of line 100 */
+    EDR_REFUSAL_DATE = 6,           /* year, quarter, date or hour: not digits, no real date, not in the quarter, not later */
+    EDR_REFUSAL_DATE_DIFFERS = 7,   /* date and hour unlike those of the 200 line of the same rank */
+    EDR_REFUSAL_FORMAT = 8,         /* a value that is not in its format */
+    EDR_REFUSAL_RANGE = 9,          /* a value outside its range */
+    EDR_REFUSAL_LINES_MISSING = 10, /* missing at the end, this line first */
+
+    /* an hour's figure that no unrounded readings give */
+    EDR_REFUSAL_HEAT_INPUT_RATE = 11,
+    EDR_REFUSAL_SO2_RATE = 12,
+    EDR_REFUSAL_NOX_RATE = 13,
+    EDR_REFUSAL_CO2_RATE = 14,
+
+    /* a total of line 301 that differs from the one formed */
+    EDR_REFUSAL_SO2_TOTAL = 21,
+    EDR_REFUSAL_CO2_TOTAL = 22,
+    EDR_REFUSAL_HEAT_INPUT_TOTAL = 23,
+    EDR_REFUSAL_MEAN_NOX_RATE = 24,
+
+    /* the writer, without a line */
+    EDR_REFUSAL_SHEET = 31,            /* year, quarter, name, word count, a kind, or hours that do not rise or do not exist */
+    EDR_REFUSAL_SHEET_RANGE = 32,      /* a value outside its range */
+    EDR_REFUSAL_FIGURE_TOO_LARGE = 33, /* a figure too large for its columns */
+    EDR_REFUSAL_BUFFER_TOO_SHORT = 34  /* room for less than EDR_REPORT_LENGTH(n) bytes */
+};
+
+/* The kinds of a sheet's words, in the order in which an hour's words stand, and what their values count. */
+enum edr_kind {
+    EDR_KIND_HOUR = 0, /* hour of the quarter, 0 first, and operating time: see edr_hour_word */
+    EDR_KIND_SO2 = 1,  /* tenths of ppm */
+    EDR_KIND_NOX = 2,  /* tenths of ppm */
+    EDR_KIND_CO2 = 3,  /* tenths of percent */
+    EDR_KIND_FLOW = 4, /* scfh */
+    EDR_KIND_FC = 5    /* tenths of scf/mmBtu */
+};
+
+/* A word has its value in the low bits and its kind above them. */
+#define EDR_VALUE_BITS 29
+#define EDR_MOST_VALUE ((UINT32_C(1) << EDR_VALUE_BITS) - 1)
+
+/* A word of a sheet. A value too large for its bits becomes EDR_MOST_VALUE, which edr_write refuses in every kind. */
+static inline uint32_t edr_word(enum edr_kind kind, uint32_t value)
+{
+    return (uint32_t)kind << EDR_VALUE_BITS | (value < EDR_MOST_VALUE ? value : EDR_MOST_VALUE);
+}
+
+/* The word of an hour of the quarter with its operating time in hundredths of an hour. An hour or a time too large for its bits
+   becomes the largest, which edr_write refuses. */
+static inline uint32_t edr_hour_word(uint32_t hour, uint32_t time)
+{
+    const uint32_t most_hour = EDR_MOST_VALUE >> 7;
+    const uint32_t most_time = 127;
+    return edr_word(EDR_KIND_HOUR, (hour < most_hour ? hour : most_hour) * 128 + (time < most_time ? time : most_time));
+}
+
+/* Checks a report of `length` bytes and returns an edr_outcome. Elements of the answer that it does not fill keep their values. */
 uint64_t edr_check(const uint8_t *file, size_t length, uint64_t *answer, size_t room);
 
-/* Writes the report of a sheet, six words to an operating hour, to the front of the buffer. Returns its length, which is 64 or
-   more, or the number of the refusal, 31 to 34, and then no byte is changed. A name of another length than six is 31. */
+/* Writes the report of a sheet to the front of the buffer. Returns its length, which is EDR_REPORT_LENGTH(0) or more, or the number of
+   the refusal, 31 to 34. Bytes behind the report keep their values, and on a refusal all do. */
 uint64_t edr_write(uint64_t year, uint64_t quarter, const uint8_t *name, size_t name_length,
                    const uint32_t *sheet, size_t words, uint8_t *buffer, size_t room);
 

@@ -12,7 +12,7 @@ use second::generate::{recorder, sheets};
 use second::random::Random;
 use second::write::Order;
 
-const HOURS: usize = 2208;
+const HOURS: usize = edr::MOST_HOURS;
 const ROUNDS: usize = 100;
 
 /// One of those that are timed, and its best time so far in microseconds.

@@ -17,6 +17,10 @@ extern "C" {
     ) -> u64;
 }
 
+/// The numbers of an answer, and the code with which `edr_check` returns an acceptance.
+const ANSWER_LENGTH: usize = 5;
+const ACCEPTED: u64 = 1;
+
 /// What the check says of a report.
 #[derive(Clone, Copy, Debug, PartialEq, Eq)]
 pub enum Answer {
@@ -35,24 +39,99 @@ pub enum Written {
     Refused(u64),
 }
 
+/// The operating hours of the longest quarter.
+pub const MOST_HOURS: usize = 2208;
+
+/// The words of a sheet for an operating hour.
+pub const HOUR_WORDS: usize = 6;
+
 /// The bytes of a report of so many operating hours.
 pub const fn report_length(hours: usize) -> usize {
     64 + 318 * hours
 }
 
+/// The kinds of a sheet's words, in the order in which an hour's words stand, and what their values count.
+#[derive(Clone, Copy, Debug, PartialEq, Eq)]
+pub enum Kind {
+    /// Hour of the quarter, 0 first, and operating time: see [`hour_word`].
+    Hour = 0,
+    /// Tenths of ppm.
+    So2 = 1,
+    /// Tenths of ppm.
+    Nox = 2,
+    /// Tenths of percent.
+    Co2 = 3,
+    /// Volumetric flow, scfh.
+    Flow = 4,
+    /// Carbon-based F-factor, tenths of scf/mmBtu.
+    Fc = 5,
+}
+
+/// A word has its value in the low bits and its kind above them.
+const VALUE_BITS: u32 = 29;
+const MOST_VALUE: u32 = (1 << VALUE_BITS) - 1;
+
+/// A word of a sheet. A value too large for its bits becomes the largest, which the writer refuses in every kind.
+pub const fn word(kind: Kind, value: u32) -> u32 {
+    (kind as u32) << VALUE_BITS | at_most(MOST_VALUE, value)
+}
+
+/// The word of an hour of the quarter with its operating time in hundredths of an hour. An hour or a time too large for its bits becomes
+/// the largest, which the writer refuses.
+pub const fn hour_word(hour: u32, time: u32) -> u32 {
+    word(Kind::Hour, at_most(MOST_VALUE >> 7, hour) * 128 + at_most(127, time))
+}
+
+const fn at_most(most: u32, value: u32) -> u32 {
+    if value < most {
+        value
+    } else {
+        most
+    }
+}
+
+/// What the refusal of a number means.
+pub const fn meaning(number: u64) -> &'static str {
+    match number {
+        1 => "the file is empty, or does not end with a newline (byte 10)",
+        2 => "the line is not of the type that is due there, or follows the last line",
+        3 => "the line has another length than its type",
+        4 => "the line has a byte that is not printable ASCII",
+        5 => "the stack name is blank (line 100) or unlike that of line 100",
+        6 => "year, quarter, date or hour is not digits, no real date, outside the quarter, or not later than the one before",
+        7 => "date and hour differ from the 200 line of the same rank",
+        8 => "a value is not in its format",
+        9 => "a value is outside its range",
+        10 => "lines are missing at the end",
+        11 => "no unrounded readings give this hour's heat input rate",
+        12 => "no unrounded readings give this hour's SO2 mass emission rate",
+        13 => "no unrounded readings give this hour's NOx emission rate",
+        14 => "no unrounded readings give this hour's CO2 mass emission rate",
+        21 => "line 301's SO2 differs from the total formed",
+        22 => "line 301's CO2 differs from the total formed",
+        23 => "line 301's heat input differs from the total formed",
+        24 => "line 301's mean NOx emission rate differs from the one formed",
+        31 => "year, quarter, name, word count or a kind of the sheet is wrong, or its hours do not rise or are not in the quarter",
+        32 => "a value of the sheet is outside its range",
+        33 => "a figure of the sheet's hours is too large for its columns",
+        34 => "the buffer is shorter than the report",
+        _ => "no refusal has this number",
+    }
+}
+
 /// Checks a report.
 pub fn check(file: &[u8]) -> Answer {
-    let mut answer = [0; 5];
+    let mut answer = [0; ANSWER_LENGTH];
     // SAFETY: each pointer and length are those of a slice that is borrowed for the call.
     let code = unsafe { edr_check(file.as_ptr(), file.len(), answer.as_mut_ptr(), answer.len()) };
     let [hours, so2, co2, heat, nox] = answer;
     match code {
-        1 => Answer::Accepted { hours, so2, co2, heat, nox },
+        ACCEPTED => Answer::Accepted { hours, so2, co2, heat, nox },
         _ => Answer::Refused { number: answer[0], line: answer[1] },
     }
 }
 
-/// Writes the report of a sheet, six words to an operating hour, to the front of the buffer.
+/// Writes the report of a sheet, [`HOUR_WORDS`] words to an operating hour, to the front of the buffer.
 pub fn write(year: u64, quarter: u64, name: &[u8], sheet: &[u32], buffer: &mut [u8]) -> Written {
     // SAFETY: each pointer and length are those of a slice that is borrowed for the call.
     let code = unsafe {
@@ -67,9 +146,10 @@ pub fn write(year: u64, quarter: u64, name: &[u8], sheet: &[u32], buffer: &mut [
             buffer.len(),
         )
     };
-    match code {
-        0..64 => Written::Refused(code),
-        _ => Written::Length(code as usize),
+    if code < report_length(0) as u64 {
+        Written::Refused(code)
+    } else {
+        Written::Length(code as usize)
     }
 }
 

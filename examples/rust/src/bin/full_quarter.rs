@@ -2,24 +2,19 @@
 
 use std::process::ExitCode;
 
-use edr::Written;
+use edr::{hour_word, word, Kind, Written};
 
-const HOURS: usize = 2208;
-
-/// A word of the sheet: the kind in the top three bits, the value below.
-fn word(kind: u32, value: u32) -> u32 {
-    kind << 29 | value
-}
+const HOURS: usize = edr::MOST_HOURS;
 
 /// Made-up readings of an hour of the quarter.
-fn words_of(hour: u32) -> [u32; 6] {
+fn words_of(hour: u32) -> [u32; edr::HOUR_WORDS] {
     [
-        word(0, hour * 128 + 100),          // hour of the quarter; time 1.00
-        word(1, 2_000 + hour % 1_000),      // SO2, tenths of ppm
-        word(2, 1_500 + hour % 700),        // NOx, tenths of ppm
-        word(3, 100 + hour % 40),           // CO2, tenths of percent
-        word(4, 20_000_000 + 1_000 * hour), // flow, scfh
-        word(5, 18_000),                    // Fc, tenths of scf/mmBtu
+        hour_word(hour, 100), // operating time 1.00
+        word(Kind::So2, 2_000 + hour % 1_000),
+        word(Kind::Nox, 1_500 + hour % 700),
+        word(Kind::Co2, 100 + hour % 40),
+        word(Kind::Flow, 20_000_000 + 1_000 * hour),
+        word(Kind::Fc, 18_000),
     ]
 }
 

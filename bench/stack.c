@@ -1,0 +1,63 @@
+/* How many bytes of stack edr_write and edr_check use on a full quarter. Each is called on a stack that is filled with one byte, and the
+   lowest byte that has changed tells. Arguments, return addresses and what a function keeps below its stack pointer count. */
+#include <inttypes.h>
+#include <stdio.h>
+#include <string.h>
+#include <ucontext.h>
+
+#include "edr.h"
+
+enum { HOURS = EDR_MOST_HOURS, WORDS = EDR_HOUR_WORDS * HOURS, LENGTH = EDR_REPORT_LENGTH(HOURS), FILL = 0xA5 };
+
+static uint32_t sheet[WORDS];
+static uint8_t report[LENGTH];
+static uint64_t answer[EDR_ANSWER_LENGTH];
+static uint64_t returned;
+
+static uint8_t stack[1 << 16];
+static uint8_t *top;
+static ucontext_t outside, inside;
+
+static void call_write(void)
+{
+    top = __builtin_frame_address(0);
+    returned = edr_write(2005, 3, (const uint8_t *)"STACK1", EDR_NAME_LENGTH, sheet, WORDS, report, LENGTH);
+}
+
+static void call_check(void)
+{
+    top = __builtin_frame_address(0);
+    returned = edr_check(report, LENGTH, answer, EDR_ANSWER_LENGTH);
+}
+
+static void measure(const char *name, void (*call)(void))
+{
+    memset(stack, FILL, sizeof stack);
+    getcontext(&inside);
+    inside.uc_stack.ss_sp = stack;
+    inside.uc_stack.ss_size = sizeof stack;
+    inside.uc_link = &outside;
+    makecontext(&inside, call, 0);
+    swapcontext(&outside, &inside);
+    const uint8_t *lowest = stack;
+    while (*lowest == FILL) {
+        lowest++;
+    }
+    printf("%s returned %" PRIu64 " and used at most %td bytes of stack\n", name, returned, top - lowest);
+}
+
+int main(void)
+{
+    for (uint32_t hour = 0; hour < HOURS; hour++) {
+        uint32_t *words = sheet + EDR_HOUR_WORDS * hour;
+        words[0] = edr_hour_word(hour, 50);
+        words[1] = edr_word(EDR_KIND_SO2, 2500);
+        words[2] = edr_word(EDR_KIND_NOX, 2000);
+        words[3] = edr_word(EDR_KIND_CO2, 120);
+        words[4] = edr_word(EDR_KIND_FLOW, 20000000);
+        words[5] = edr_word(EDR_KIND_FC, 18000);
+    }
+    measure("edr_write", call_write);
+    measure("edr_check", call_check);
+    return 0;
+}
