@@ -20,9 +20,8 @@ use Rattle.sheet.specs.Sheet.{sheetHourCount, shapeOf, sheetHours}
 use Rattle.sheet.specs.declared.SheetHour.{SheetHour}
 use Rattle.writer.specs.Recorded.{ReportHour, recordedHour, recordedHours, reportHours}
 use Rattle.writer.specs.Refusals.{refusalOf}
-use Rattle.writer.specs.RefusalLaws.{not-refused}
 use Rattle.writer.specs.Written.{writtenNumber, shortestReport, report, answered, buffered}
-use Rattle.writer.specs.TableLaws.{number-tells}
+use Rattle.writer.specs.TableLaws.{not-refused, number-tells}
 use Rattle.writer.specs.ReportLaws.{report-hours-count, written-length}
 use Rattle.writer.specs.declared.Written.the-variants.{Length, Refused}
 use Rattle.agreement.specs.Reportable.{Reportable, reportable-few, writable-reportable}

@@ -154,6 +154,6 @@ figureFrom q u fc = roundedAt q (readingsFrom u fc) (pairOf q u)
 abbrev pub figuresFrom : Unrounded → (fc : ℕ) → Figures
 figuresFrom u fc = record { heat = figureFrom Heat u fc; so2 = figureFrom So2 u fc; nox = figureFrom Nox u fc; co2 = figureFrom Co2 u fc }
 
--- "honestly rounded" of one hour: for so many hundredths of an hour
+-- the hour as it is then recorded, of so many hundredths
 abbrev pub hourFrom : Unrounded → (fc time : ℕ) → Hour
 hourFrom u fc time = record { time = time; readings = readingsFrom u fc; figures = figuresFrom u fc }

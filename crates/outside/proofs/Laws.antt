@@ -8,7 +8,7 @@ use lib.ListN.{length, take, drop, set, getD, replicate, length-replicate, drop-
 use lib.Seq.{drop-cons, take-suc-set}
 use Rattle.layout.specs.Layout.{reportLength}
 use Rattle.writer.specs.Refusals.{refusalOf}
-use Rattle.writer.specs.RefusalLaws.{not-refused}
+use Rattle.writer.specs.TableLaws.{not-refused}
 use Rattle.sheet.specs.Sheet.{shapeOf}
 use Rattle.writer.specs.Written.{answered}
 use Rattle.writer.specs.declared.Written.{Written}

@@ -1,4 +1,5 @@
--- Every answer of the writer is of a row of its table. Table.antt has the rows. Its number tells a length from a refusal.
+-- Every answer of the writer is of a row of its table. Table.antt has the rows. What is not refused can be written, and an answer's number
+-- tells a length from a refusal.
 use Prim.Native.Nat.{ℕ, zero, suc, _≤_}
 use mathlib.Core.Path.{_≡_, refl}
 use mathlib.Core.List.{List}
@@ -12,6 +13,8 @@ use Rattle.sheet.specs.Sheet.{shapeOf, sheetHours}
 use Rattle.sheet.specs.SheetTests.{every, sheetHolds, readingsHold}
 use Rattle.writer.specs.Refusals.{figuresFit, refusalOf}
 use Rattle.writer.specs.Written.{writtenNumber, shortestReport, answered}
+use Rattle.writer.specs.Writable.{Writable}
+use Rattle.writer.specs.RefusalLaws.{writable}
 use Rattle.writer.specs.Table.{InWriterTable}
 use Rattle.writer.specs.Table.InWriterTable.{reportWritten, misshapen, readingOutside, tooLarge, noRoom}
 use Rattle.writer.specs.declared.Written.{Written}
@@ -38,6 +41,21 @@ answer-in-table year quarter name sheet room =
     go true p true q false r d s = tooLarge p q r
     go true p true q true r false s = noRoom p q r (leb-false _ _ s)
     go true p true q true r true s = reportWritten p q r (leb-true _ _ s)
+
+-- what is not refused can be written, and the buffer has room for it
+row-written : {year quarter : ℕ} {name sheet : List ℕ} {room n : ℕ} {w : Written} → InWriterTable year quarter name sheet room w → w ≡ Length n →
+    Writable year quarter name sheet × (reportLength (shapeOf sheet) ≤ room)
+row-written (reportWritten a b c d) e = (writable _ _ _ _ a b c, d)
+row-written (misshapen a) e = absurd (let z : _≡_ {A = ℕ} 0 1 = cc in omega arith)
+row-written (readingOutside a b) e = absurd (let z : _≡_ {A = ℕ} 0 1 = cc in omega arith)
+row-written (tooLarge a b c) e = absurd (let z : _≡_ {A = ℕ} 0 1 = cc in omega arith)
+row-written (noRoom a b c d) e = absurd (let z : _≡_ {A = ℕ} 0 1 = cc in omega arith)
+
+pub not-refused : (year quarter : ℕ) (name sheet : List ℕ) (room : ℕ) → refusalOf year quarter name sheet room ≡ 0 →
+    Writable year quarter name sheet × (reportLength (shapeOf sheet) ≤ room)
+unfolding answered
+not-refused year quarter name sheet room e =
+    row-written {n = reportLength (shapeOf sheet)} (answer-in-table year quarter name sheet room) (rw (e, answered))
 
 row-tells : {year quarter : ℕ} {name sheet : List ℕ} {room : ℕ} {w : Written} → InWriterTable year quarter name sheet room w →
     shortestReport ≤ writtenNumber w → w ≡ Length (reportLength (shapeOf sheet))

@@ -1,4 +1,4 @@
--- What a sheet is that can be written: heading, hours and figures are right, and the buffer has room. RefusalLaws.antt proves that
+-- What a sheet is that can be written: heading, hours and figures are right, and the buffer has room. TableLaws.antt proves that
 -- a sheet that is not refused is one.
 use Prim.Native.Nat.{ℕ, _≤_, _<_}
 use mathlib.Core.Path.{_≡_}

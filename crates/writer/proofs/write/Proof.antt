@@ -6,7 +6,7 @@ use borrow.Author.Needs.{needs}
 use Rattle.layout.specs.Layout.{stackWidth, reportLength}
 use Rattle.sheet.specs.Sheet.{shapeOf}
 use Rattle.writer.specs.Writable.{Writable}
-use Rattle.writer.specs.RefusalLaws.{not-refused}
+use Rattle.writer.specs.TableLaws.{not-refused}
 use Rattle.writer.proofs.Answer.{refused, accepted}
 use Rattle.writer.proofs.write.Statement.{statement}
 use Rattle.writer.proofs.write.Tie as tie
