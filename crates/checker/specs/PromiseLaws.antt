@@ -120,7 +120,8 @@ refused-rightly file q line e = go (readOf file) refl e
         (λ z. absurd (totals-refused (quarterTotals (hoursOf file)) (totalsIn file) (recordAt file QuarterTotals 0 .number) q line z))
         (hours-refused file 0 (hourCount file) (comparedTotals (recordAt file QuarterTotals 0 .number) (quarterTotals (hoursOf file)) (totalsIn file)) q line w)
 
-refused-total : (file : List ℕ) (number line : ℕ) → 15 ≤ number → ofLineChecks number ≡ false → checked file ≡ refusedAt number line → DiffersAt file number line
+refused-total : (file : List ℕ) (number line : ℕ) → 15 ≤ number → ofLineChecks number ≡ false → checked file ≡ refusedAt number line →
+    DiffersAt file number line
 unfolding checked afterReading judged
 refused-total file number line b a e = go (readOf file) refl e
   where

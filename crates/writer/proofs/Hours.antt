@@ -41,7 +41,8 @@ module _ (year quarter : ℕ) (name sheet : List ℕ) (s : Shape) (k : ℕ) (buf
   abbrev pub withHourLines : List ℕ
   withHourLines = hourLines name s k (stampOf year quarter (sheetHour sheet k .hour)) (recordedHour (sheetHour sheet k)) (hourly order) buffer
 
-  pub lines-more : k < s .hours → hoursLines year quarter name s (k + 1) (reportHours (ranked (sheetHour sheet) (k + 1) (s .hours - (k + 1)))) withHourLines ≡ linesLeft
+  pub lines-more : k < s .hours →
+      hoursLines year quarter name s (k + 1) (reportHours (ranked (sheetHour sheet) (k + 1) (s .hours - (k + 1)))) withHourLines ≡ linesLeft
   unfolding hoursLines
   lines-more h = rw (ranked-next (sheetHour sheet) (s .hours) k h, add-one k)
 
@@ -87,7 +88,9 @@ module _ (year quarter : ℕ) (name sheet before : List ℕ) (s : Shape) (shaped
         × (buffer ≡ hoursLines year quarter name (shapeOf sheet) 0 (reportHours (sheetHours sheet)) before)
     passed-end h = (
       quarter-formed totals (recordedHours (reportHours (sheetHours sheet))) (sym (totals-end sheet (s .hours) k totals h) ∙ p .totalled ∙ running-totals _),
-      sym (lines-end year quarter name sheet s k buffer h) ∙ p .lines ∙ ap (λ (s : Shape). hoursLines year quarter name s 0 (reportHours (sheetHours sheet)) before) shaped,
+      sym (lines-end year quarter name sheet s k buffer h)
+          ∙ p .lines
+          ∙ ap (λ (s : Shape). hoursLines year quarter name s 0 (reportHours (sheetHours sheet)) before) shaped,
     )
 
 -- a buffer of the same length has room as well

@@ -51,7 +51,8 @@ fn write_hours(buffer: &mut [u8], name: &[u8], sheet: &[u32], year: u64, quarter
     requires { ⌜ Fits year quarter (now name) (now sheet) (now buffer) ⌝ }
     ensures { λ r. ⌜ (r ≡ quarterTotals (recordedHours (reportHours (sheetHours (now (sheet .entry))))))
         × (now (buffer .exit)
-        ≡ hoursLines year quarter (now (name .entry)) (shapeOf (now (sheet .entry))) 0 (reportHours (sheetHours (now (sheet .entry)))) (now (buffer .entry))) ⌝ }
+        ≡ hoursLines year quarter (now (name .entry)) (shapeOf (now (sheet .entry))) 0 (reportHours (sheetHours (now (sheet .entry))))
+        (now (buffer .entry))) ⌝ }
 {
     let s = sheet::shape_of(sheet);
     let mut totals = Totals::none();
@@ -69,7 +70,8 @@ fn write_hours(buffer: &mut [u8], name: &[u8], sheet: &[u32], year: u64, quarter
 
 pub fn write_report(buffer: &mut [u8], name: &[u8], sheet: &[u32], year: u64, quarter: u64)
     requires { ⌜ Fits year quarter (now name) (now sheet) (now buffer) ⌝ }
-    ensures { λ _. ⌜ now (buffer .exit) ≡ put 1 (report year quarter (now (name .entry)) (reportHours (sheetHours (now (sheet .entry))))) (now (buffer .entry)) ⌝ }
+    ensures { λ _. ⌜ now (buffer .exit)
+        ≡ put 1 (report year quarter (now (name .entry)) (reportHours (sheetHours (now (sheet .entry))))) (now (buffer .entry)) ⌝ }
 {
     records::write_facility(buffer, name, year, quarter);
     let totals = write_hours(buffer, name, sheet, year, quarter);
