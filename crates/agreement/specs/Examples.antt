@@ -26,15 +26,15 @@ unfolding empty emptyQuarter
 empty-same = refl
 
 -- the worked hour as it was measured, its SO2 and flow being these
-abbrev measured : Fraction → Fraction → List ℕ
-measured so2 flow =
+abbrev roundedReport : Fraction → Fraction → List ℕ
+roundedReport so2 flow =
     report 2005 3 stack
     (roundedHours (record { hour = 0; time = 50; fc = 18_000; readings = record { so2 = so2; nox = whole 200; co2 = whole 12; flow = flow } } ∷ []))
 
-pub measured-same : (measured (fraction 25_004 100 (lit< tt)) (fraction 200_000_004 10 (lit< tt)) ≡ between)
-    × (measured (fraction 24_995 100 (lit< tt)) (fraction 199_999_995 10 (lit< tt)) ≡ lowest)
-    × (measured (fraction 2_500_499 10_000 (lit< tt)) (fraction 2_000_000_049 100 (lit< tt)) ≡ highest)
+pub unrounded-same : (roundedReport (fraction 25_004 100 (lit< tt)) (fraction 200_000_004 10 (lit< tt)) ≡ between)
+    × (roundedReport (fraction 24_995 100 (lit< tt)) (fraction 199_999_995 10 (lit< tt)) ≡ lowest)
+    × (roundedReport (fraction 2_500_499 10_000 (lit< tt)) (fraction 2_000_000_049 100 (lit< tt)) ≡ highest)
 unfolding workedHour put over totalOf digitsOf digitOrBlank leading wholeWritten fixedWritten written leapYear daysInMonth daysBefore monthOfDay
     dateOfHour stampNumber stampOf totalsOf meanOf quarterOf quarterTotals headed valued facilityRecord totalsRecord hourRecord writtenRecords lined
     report
-measured-same = (refl, refl, refl)
+unrounded-same = (refl, refl, refl)

@@ -15,30 +15,30 @@ use Rattle.agreement.specs.Reportable.{Reportable}
 use Rattle.agreement.specs.Agreement.{report-honest, report-accepted}
 
 -- an operating hour as it was: hour of the quarter, hundredths of an hour, Fc in tenths, and the readings before they were rounded
-pub record MeasuredHour : Type 0 where
+pub record UnroundedHour : Type 0 where
   pub hour : ℕ
   pub time : ℕ
   pub fc : ℕ
   pub readings : Unrounded
 
-abbrev pub readingsOf : List MeasuredHour → List Unrounded
-readingsOf hs = map (λ (h : MeasuredHour). h .readings) hs
+abbrev pub readingsOf : List UnroundedHour → List Unrounded
+readingsOf hs = map (λ (h : UnroundedHour). h .readings) hs
 
-abbrev pub roundedHour : MeasuredHour → ReportHour
+abbrev pub roundedHour : UnroundedHour → ReportHour
 roundedHour h = record { hour = h .hour; recorded = hourFrom (h .readings) (h .fc) (h .time) }
 
-abbrev pub roundedHours : List MeasuredHour → List ReportHour
+abbrev pub roundedHours : List UnroundedHour → List ReportHour
 roundedHours hs = map roundedHour hs
 
-readings-behind : (hs : List MeasuredHour) → SetsBehind (recordedHours (roundedHours hs)) (readingsOf hs)
+readings-behind : (hs : List UnroundedHour) → SetsBehind (recordedHours (roundedHours hs)) (readingsOf hs)
 readings-behind [] = tt
 readings-behind (h ∷ hs) = ((λ q. recorded-behind q (h .readings) (h .fc) (h .time)), readings-behind hs)
 
 -- what is measured may be reported: as rounded it is honest and accepted, with the totals formed
-pub every-measured : (year quarter : ℕ) (name : List ℕ) (hs : List MeasuredHour) → Reportable year quarter name (roundedHours hs) →
+pub every-unrounded : (year quarter : ℕ) (name : List ℕ) (hs : List UnroundedHour) → Reportable year quarter name (roundedHours hs) →
     HonestlyRounded (report year quarter name (roundedHours hs)) (readingsOf hs)
     × (numbersOf (checked (report year quarter name (roundedHours hs))) ≡ acceptance (quarterTotals (recordedHours (roundedHours hs))))
-every-measured year quarter name hs r =
+every-unrounded year quarter name hs r =
     let b = readings-behind hs in
     let rs = roundedHours hs in
     (report-honest year quarter name rs r (readingsOf hs) b, ap numbersOf (report-accepted year quarter name rs r (readingsOf hs) b))

@@ -1,12 +1,12 @@
 -- What an input says of the reads: it is too long exactly where a byte came behind a full report, and a report is all that came before.
 use Prim.Native.Nat.{ℕ, zero, suc}
-use mathlib.Core.Path.{_≡_, refl, sym, ap, _∙_}
+use mathlib.Core.Path.{_≡_, refl, ap}
 use mathlib.Core.Logic.{_↔_}
 use native.Mathlib.Omega.{arith}
 use lib.IntN.{ℤ, pos, negsuc}
 use Rattle.edr_check.specs.Input.{inputOf, ReadTo}
 use Rattle.edr_check.specs.declared.Reads.{Reads}
-use Rattle.edr_check.specs.declared.Input.the-variants.{Report, TooLong, Unreadable}
+use Rattle.edr_check.specs.declared.Input.the-variants.{Report, TooLong}
 
 brought : (size : ℕ) (z : ℤ) → inputOf size z ≡ TooLong → (k : ℕ) × (z ≡ pos (suc k))
 unfolding inputOf

@@ -4,39 +4,14 @@ use mathlib.Core.Bool.{cond}
 use mathlib.Core.List.{List, [], _∷_, _++_, map}
 use lib.Dec.{eqb}
 use lib.ListN.{length, drop}
-use Rattle.layout.specs.Layout.{
-  recordOf,
-  codeOf,
-  order,
-  shape,
-  lengthOf,
-  dateColumn,
-  typeStart,
-  typeDigits,
-  stackStart,
-  yearDigits,
-  quarterDigit,
-  valuesOf,
-  reportLength,
-}
+use Rattle.layout.specs.Layout.{recordOf, codeOf, order, shape, reportLength}
 use Rattle.layout.specs.PlaceLaws.{joinedRuns}
 use Rattle.stamp.specs.Stamp.{stampOf}
 use Rattle.totals.specs.Totals.{quarterTotals}
 use Rattle.layout.specs.declared.Run.{Run}
 use Rattle.layout.specs.declared.Run.the-variants.{Once, Hourly}
 use Rattle.layout.specs.declared.RecordType.{RecordType}
-use Rattle.layout.specs.declared.RecordType.the-variants.{
-  Facility,
-  So2Concentration,
-  NoxConcentration,
-  Co2Concentration,
-  VolumetricFlow,
-  Operation,
-  QuarterTotals,
-  So2Mass,
-  NoxRate,
-  Co2Mass,
-}
+use Rattle.layout.specs.declared.RecordType.the-variants.{Facility}
 use Rattle.sheet.specs.Sheet.{shapeOf, sheetHours}
 use Rattle.records.specs.Records.{ended, facilityRecord, datedRecord, totalsRecord}
 use Rattle.writer.specs.Recorded.{ReportHour, recordedHours, reportHours}

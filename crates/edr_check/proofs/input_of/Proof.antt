@@ -10,7 +10,6 @@ use mir.Val.{toZ, ofZ}
 use mir.Facts.{toZ-ofZ}
 use borrow.Author.Tests.{ltb-true, ltb-false}
 use Rattle.edr_check.specs.Input.{inputOf}
-use Rattle.edr_check.specs.declared.Input.{Input}
 use Rattle.edr_check.specs.declared.Input.the-variants.{Report, TooLong, Unreadable}
 use Rattle.edr_check.proofs.input_of.Statement.{statement}
 use Rattle.edr_check.proofs.input_of.Tie as tie
