@@ -24,7 +24,8 @@ use Rattle.writer.specs.Written.{writtenNumber, shortestReport, report, answere
 use Rattle.writer.specs.TableLaws.{not-refused, number-tells}
 use Rattle.writer.specs.ReportLaws.{report-hours-count, written-length}
 use Rattle.writer.specs.declared.Written.the-variants.{Length, Refused}
-use Rattle.agreement.specs.Reportable.{Reportable, reportable-few, writable-reportable}
+use Rattle.agreement.specs.Reportable.{Reportable}
+use Rattle.agreement.specs.ReportableLaws.{reportable-few, writable-reportable}
 use Rattle.agreement.specs.ReportLaws.{recorded-length, formed, own, report-clean}
 use Rattle.agreement.specs.ReadBackLaws.{hours-back, totals-back}
 

@@ -1,4 +1,5 @@
 pub mod Reportable
+pub mod ReportableLaws
 pub mod RecordLaws
 pub mod HourRecordLaws
 pub mod ReportLaws

@@ -1,6 +1,6 @@
 -- The test of a figure is exact: it passes where some unrounded readings lie behind the figure, and nowhere else.
 -- What the writer writes passes: the recorded readings themselves lie behind it.
-use mathlib.Core.Path.{_≡_, refl, sym, subst}
+use mathlib.Core.Path.{_≡_, refl, sym, ap, subst, _∙_}
 use mathlib.Core.Bool.{true}
 use mathlib.Core.Logic.{_↔_, Iff·trans}
 use Prim.Native.Nat.{ℕ, _*_, _<_}
@@ -15,7 +15,7 @@ use Rattle.exact.specs.ProductLaw.{product-law}
 use Rattle.exact.specs.QuotientLaw.{recorded-divisors, quotient-law}
 use Rattle.formulas.specs.Hour.{tenth, flowUnit, unitOf, figureOf, ReadingsWithin, Unrounded, asRecorded}
 use Rattle.formulas.specs.Formulas.{Measured, Equation, equationOf, Pair, pairOf, equationValue, RoundsTo, LiesBehind, spanOf, equationMeets, passesTest}
-use Rattle.formulas.specs.Formulas.{exactValue, recordedPair, roundedValue, roundedFigures, readingsFrom, figureFrom, figuresFrom, hourFrom}
+use Rattle.formulas.specs.Formulas.{exactValue, recordedPair, roundedAt, roundedValue, figuresBy, roundedFigures, readingsFrom, figureFrom, hourFrom}
 use Rattle.formulas.specs.declared.Form.{Form}
 use Rattle.formulas.specs.declared.Form.the-variants.{Product, Quotient}
 use Rattle.formulas.specs.declared.hour.Readings.{Readings}
@@ -102,22 +102,24 @@ recorded-rounds e = record {
   right = records-recorded (e .right .unit) (e .right .count);
 }
 
-rounded-figure : (q : Quantity) (r : Readings) → figureOf q (roundedFigures r) ≡ roundedValue q r
-unfolding roundedFigures
-rounded-figure Heat r = refl
-rounded-figure So2 r = refl
-rounded-figure Nox r = refl
-rounded-figure Co2 r = refl
+figure-by : (q : Quantity) (figure : Quantity → ℕ) → figureOf q (figuresBy figure) ≡ figure q
+figure-by Heat figure = refl
+figure-by So2 figure = refl
+figure-by Nox figure = refl
+figure-by Co2 figure = refl
+
+-- readings that round to the recorded ones lie behind their own formula value, rounded
+rounded-behind : (q : Quantity) (h : Hour) (p : Pair) → RoundsTo (equationOf q (h .readings)) p →
+    figureOf q (h .figures) ≡ roundedAt q (h .readings) p → LiesBehind q h p
+rounded-behind q h p reads e = record { reads = reads; gives = rw e (records-rounded (unitOf q) (exactValue q (h .readings) p)) }
 
 -- behind the rounded formula values lie the recorded readings
 pub written-behind : (q : Quantity) (h : Hour) → h .figures ≡ roundedFigures (h .readings) → LiesBehind q h (pairOf q (asRecorded (h .readings)))
-unfolding roundedValue
+unfolding roundedFigures roundedValue
 written-behind q h e =
     let x = equationOf q (h .readings) in
-    subst (LiesBehind q h) (sym (recorded-pair q (h .readings))) (record {
-      reads = recorded-rounds x;
-      gives = rw (e, rounded-figure q (h .readings)) (records-rounded (unitOf q) (equationValue x (recordedPair x)));
-    })
+    subst (LiesBehind q h) (sym (recorded-pair q (h .readings)))
+    (rounded-behind q h (recordedPair x) (recorded-rounds x) (ap (figureOf q) e ∙ figure-by q (λ q. roundedValue q (h .readings))))
 
 -- unrounded readings lie behind what a recorder records of them
 
@@ -127,14 +129,5 @@ rounds-from So2 u fc = record { left = records-rounded tenth (u .so2); right = r
 rounds-from Nox u fc = record { left = records-rounded tenth (u .nox); right = records-rounded tenth (u .co2) }
 rounds-from Co2 u fc = record { left = records-rounded tenth (u .co2); right = records-rounded flowUnit (u .flow) }
 
-figure-from : (q : Quantity) (u : Unrounded) (fc : ℕ) → figureOf q (figuresFrom u fc) ≡ figureFrom q u fc
-figure-from Heat u fc = refl
-figure-from So2 u fc = refl
-figure-from Nox u fc = refl
-figure-from Co2 u fc = refl
-
 pub recorded-behind : (q : Quantity) (u : Unrounded) (fc time : ℕ) → LiesBehind q (hourFrom u fc time) (pairOf q u)
-recorded-behind q u fc time = record {
-  reads = rounds-from q u fc;
-  gives = rw (figure-from q u fc) (records-rounded (unitOf q) (exactValue q (readingsFrom u fc) (pairOf q u)));
-}
+recorded-behind q u fc time = rounded-behind q (hourFrom u fc time) (pairOf q u) (rounds-from q u fc) (figure-by q (λ q. figureFrom q u fc))

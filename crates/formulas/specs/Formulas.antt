@@ -133,8 +133,12 @@ roundedAt q r p = halfUp (unitOf q) (exactValue q r p)
 unfoldable pub roundedValue : Quantity → Readings → ℕ
 roundedValue q r = roundedAt q r (recordedPair (equationOf q r))
 
+-- a figure for each quantity
+abbrev pub figuresBy : (Quantity → ℕ) → Figures
+figuresBy figure = record { heat = figure Heat; so2 = figure So2; nox = figure Nox; co2 = figure Co2 }
+
 unfoldable pub roundedFigures : Readings → Figures
-roundedFigures r = record { heat = roundedValue Heat r; so2 = roundedValue So2 r; nox = roundedValue Nox r; co2 = roundedValue Co2 r }
+roundedFigures r = figuresBy (λ q. roundedValue q r)
 
 -- what a recorder that multiplies before it rounds records of unrounded readings: each of them rounded, beside Fc, and the formulas of the
 -- unrounded readings, rounded
@@ -152,7 +156,7 @@ abbrev pub figureFrom : Quantity → Unrounded → (fc : ℕ) → ℕ
 figureFrom q u fc = roundedAt q (readingsFrom u fc) (pairOf q u)
 
 abbrev pub figuresFrom : Unrounded → (fc : ℕ) → Figures
-figuresFrom u fc = record { heat = figureFrom Heat u fc; so2 = figureFrom So2 u fc; nox = figureFrom Nox u fc; co2 = figureFrom Co2 u fc }
+figuresFrom u fc = figuresBy (λ q. figureFrom q u fc)
 
 -- the hour as it is then recorded, of so many hundredths
 abbrev pub hourFrom : Unrounded → (fc time : ℕ) → Hour
