@@ -1,11 +1,12 @@
 -- The promise holds of what the check answers to every file. Promise.antt states it.
 use Prim.Native.Nat.{ℕ, _+_, _≤_}
-use mathlib.Core.Path.{_≡_, refl, sym, ap, subst₂, _∙_}
+use mathlib.Core.Path.{_≡_, refl, sym, ap, subst, subst₂, _∙_}
 use mathlib.Core.List.{List, [], _∷_}
 use mathlib.Core.Bool.{false, false≢true}
 use mathlib.Core.Logic.{_⊎_, ⊎-elim}
 use native.Mathlib.Omega.{arith}
 use lib.ListN.{length, getD}
+use Rattle.calendar.specs.Calendar.{mostHours}
 use Rattle.exact.specs.Logic.{ranked-length, All, ranked-all}
 use Rattle.exact.specs.Fraction.{Near}
 use Rattle.formulas.specs.Hour.{HourWithin, HoursWithin, Unrounded}
@@ -13,6 +14,7 @@ use Rattle.formulas.specs.Formulas.{Pair, pairOf}
 use Rattle.formulas.specs.FormulaLaws.{test-exact}
 use Rattle.totals.specs.Totals.{quarterTotals}
 use Rattle.totals.specs.TotalLaws.{quarter-hours}
+use Rattle.totals.specs.FitLaws.{QuarterMost, totals-most}
 use Rattle.layout.specs.declared.RecordType.the-variants.{QuarterTotals}
 use Rattle.formulas.specs.declared.hour.Hour.{Hour}
 use Rattle.formulas.specs.declared.hour.Quantity.{Quantity}
@@ -166,6 +168,15 @@ refuses (Accepted q) number line e = absurd (let l = ap length e in omega arith)
 refuses (Refused x) number line e =
     let at : (k : ℕ) → getD (refusal (x .number) (x .line)) k 0 ≡ getD (refusal number line) k 0 = λ k. ap (λ (l : List ℕ). getD l k 0) e in
     λ i. Refused (record { number = at 0 i; line = at 1 i })
+
+-- how large what an acceptance says may be
+pub accepted-most : (file : List ℕ) (r : Quarter) → numbersOf (checked file) ≡ acceptance r → QuarterMost r
+accepted-most file r e =
+    let a = accepts (checked file) r e in
+    let f = accepted-facts file r a in
+    let s = clean-file file (f .report) (f .clean) .standing in
+    let n : length (hoursOf file) ≤ mostHours = omega (arith, hours-count file, hours-standing file (f .report .shape) s, s .held .hours) in
+    subst QuarterMost (f .formed) (totals-most (hoursOf file) (accepted-within file r a) n)
 
 pub promise : (file : List ℕ) → Promise file (checked file)
 promise file =

@@ -1,4 +1,4 @@
--- The totals of at most 2,208 hours whose figures lie in their columns fit theirs.
+-- The totals of at most 2,208 hours whose figures lie in their columns: how large they may be, and that they fit theirs.
 use Prim.Native.Nat.{ℕ, zero, suc, _+_, _*_, _≤_, _<_}
 use mathlib.Core.List.{List, [], _∷_}
 use native.Mathlib.Omega.{arith}
@@ -33,16 +33,35 @@ mean-le sum (suc n) h =
     let l : 2 * (sum * 1 * 1 * 1000) + 1 * (1000 * suc n) < 100_000 * (2 * (1 * (1000 * suc n))) = omega arith in
     omega (arith, div-lt-iff-lt-mul d .1 l)
 
-pub totals-fit : (hs : List Hour) → HoursWithin hs → length hs ≤ mostHours → QuarterWithin (quarterTotals hs)
-unfolding quarterTotals quarterOf totalsOf over
-totals-fit hs w b =
-    let s = total-le (λ h. h .figures .so2 * h .time) (so2Rate .most * timeHours .most) (λ h r. mul-le-mul (r .figures .so2 .most) (r .time .most)) hs w in
-    let c = total-le (λ h. h .figures .co2 * h .time) (co2Rate .most * timeHours .most) (λ h r. mul-le-mul (r .figures .co2 .most) (r .time .most)) hs w in
-    let e = total-le (λ h. h .figures .heat * h .time) (heatRate .most * timeHours .most) (λ h r. mul-le-mul (r .figures .heat .most) (r .time .most)) hs w in
-    let x = total-le (λ h. h .figures .nox) 99_999 (λ h r. r .figures .nox .most) hs w in
-    record {
-      so2 = record { least = omega arith; most = omega arith };
-      co2 = record { least = omega arith; most = omega arith };
-      heat = record { least = omega arith; most = omega arith };
-      nox = record { least = omega arith; most = mean-le _ _ x };
-    }
+-- no quarter's SO2, CO2 or heat input is more, in tenths: the largest rate in each of 2,208 operating hours; the three rates have columns alike
+abbrev pub mostTotal : ℕ
+mostTotal = mostHours * heatRate .most
+
+pub record QuarterMost (q : Quarter) : Type 0 where
+  pub hours : q .hours ≤ mostHours
+  pub so2 : q .so2 ≤ mostTotal
+  pub co2 : q .co2 ≤ mostTotal
+  pub heat : q .heat ≤ mostTotal
+
+module _ (hs : List Hour) (w : HoursWithin hs) (b : length hs ≤ mostHours) where
+  pub totals-most : QuarterMost (quarterTotals hs)
+  unfolding quarterTotals quarterOf totalsOf over
+  totals-most =
+      let s = total-le (λ h. h .figures .so2 * h .time) (so2Rate .most * timeHours .most) (λ h r. mul-le-mul (r .figures .so2 .most) (r .time .most)) hs w in
+      let c = total-le (λ h. h .figures .co2 * h .time) (co2Rate .most * timeHours .most) (λ h r. mul-le-mul (r .figures .co2 .most) (r .time .most)) hs w in
+      let e = total-le (λ h. h .figures .heat * h .time) (heatRate .most * timeHours .most) (λ h r. mul-le-mul (r .figures .heat .most) (r .time .most)) hs w in
+      record { hours = b; so2 = omega arith; co2 = omega arith; heat = omega arith }
+
+  nox-most : quarterTotals hs .nox ≤ noxMean .most
+  unfolding quarterTotals quarterOf totalsOf
+  nox-most = mean-le _ _ (total-le (λ h. h .figures .nox) (noxMean .most) (λ h r. r .figures .nox .most) hs w)
+
+  pub totals-fit : QuarterWithin (quarterTotals hs)
+  totals-fit =
+      let m = totals-most in
+      record {
+        so2 = record { least = omega arith; most = omega (arith, m .so2) };
+        co2 = record { least = omega arith; most = omega (arith, m .co2) };
+        heat = record { least = omega arith; most = omega (arith, m .heat) };
+        nox = record { least = omega arith; most = nox-most };
+      }
