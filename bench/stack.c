@@ -1,5 +1,6 @@
-/* How many bytes of stack edr_write and edr_check use on a full quarter. Each is called on a stack that is filled with one byte, and the
-   lowest byte that has changed tells. Arguments, return addresses and what a function keeps below its stack pointer count. */
+/* How many bytes of stack edr_write, edr_check and edr_year_to_date use on a full quarter. Each is called on a stack that is filled with
+   one byte, and the lowest byte that has changed tells. Arguments, return addresses and what a function keeps below its stack pointer
+   count. */
 #include <inttypes.h>
 #include <stdio.h>
 #include <string.h>
@@ -12,6 +13,8 @@ enum { HOURS = EDR_MOST_HOURS, WORDS = EDR_HOUR_WORDS * HOURS, LENGTH = EDR_REPO
 static uint32_t sheet[WORDS];
 static uint8_t report[LENGTH];
 static uint64_t answer[EDR_ANSWER_LENGTH];
+static const uint64_t previous[EDR_YEAR_LENGTH] = {2005, 2, 4344, 9000, 3000000, 29000000};
+static uint64_t record[EDR_YEAR_LENGTH];
 static uint64_t returned;
 
 static uint8_t stack[1 << 16];
@@ -28,6 +31,12 @@ static void call_check(void)
 {
     top = __builtin_frame_address(0);
     returned = edr_check(report, LENGTH, answer, EDR_ANSWER_LENGTH);
+}
+
+static void call_year_to_date(void)
+{
+    top = __builtin_frame_address(0);
+    returned = edr_year_to_date(previous, EDR_YEAR_LENGTH, answer, EDR_ANSWER_LENGTH, 2005, 3, record, EDR_YEAR_LENGTH);
 }
 
 static void measure(const char *name, void (*call)(void))
@@ -59,5 +68,6 @@ int main(void)
     }
     measure("edr_write", call_write);
     measure("edr_check", call_check);
+    measure("edr_year_to_date", call_year_to_date);
     return 0;
 }

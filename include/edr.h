@@ -1,6 +1,6 @@
-/* The check and the writer of quarterly stack reports, for C99 and C++11. Link with libedr_c.a, which `rt staticlib edr_c` writes to
-   target/staticlib. Behind each pointer are as many elements as the length after it says, and what a call writes to overlaps nothing
-   else that it is lent; else both calls take anything. */
+/* The check and the writer of quarterly stack reports, and the year to date, for C99 and C++11. Link with libedr_c.a, which
+   `rt staticlib edr_c` writes to target/staticlib. Behind each pointer are as many elements as the length after it says, and what a
+   call writes to overlaps nothing else that it is lent; else every call takes anything. */
 #ifndef EDR_H
 #define EDR_H
 
@@ -15,7 +15,8 @@ enum {
     EDR_MOST_HOURS = 2208, /* operating hours of the longest quarter */
     EDR_HOUR_WORDS = 6,    /* words of a sheet for an operating hour */
     EDR_NAME_LENGTH = 6,   /* bytes of a stack name */
-    EDR_ANSWER_LENGTH = 5  /* numbers of an answer */
+    EDR_ANSWER_LENGTH = 5, /* numbers of an answer */
+    EDR_YEAR_LENGTH = 6    /* numbers of a record of the year to date */
 };
 
 /* The bytes of a report of so many operating hours. */
@@ -26,6 +27,13 @@ enum edr_outcome {
     EDR_REFUSED = 0,         /* answer[0], answer[1]: the refusal's number and line */
     EDR_ACCEPTED = 1,        /* answer[0] to answer[4]: operating hours, SO2, CO2 and heat in tenths, mean NOx rate in thousandths */
     EDR_ANSWER_TOO_SHORT = 2 /* nothing is written: the room is less than EDR_ANSWER_LENGTH */
+};
+
+/* What edr_year_to_date returns. */
+enum edr_year_outcome {
+    EDR_YEAR_REFUSED = 0,  /* record[0]: the refusal's number */
+    EDR_YEAR_JOINED = 1,   /* record[0] to record[5]: year, quarter, operating hours, SO2, CO2 and heat in tenths */
+    EDR_YEAR_TOO_SHORT = 2 /* nothing is written: less than EDR_YEAR_LENGTH in a record, or EDR_ANSWER_LENGTH in the answer */
 };
 
 /* The numbers of the refusals. README.md says what to do about each. */
@@ -60,7 +68,11 @@ enum edr_refusal {
     EDR_REFUSAL_SHEET = 31,            /* year, quarter, name, word count, a kind, or hours that do not rise or do not exist */
     EDR_REFUSAL_SHEET_RANGE = 32,      /* a value outside its range */
     EDR_REFUSAL_FIGURE_TOO_LARGE = 33, /* a figure too large for its columns */
-    EDR_REFUSAL_BUFFER_TOO_SHORT = 34  /* room for less than EDR_REPORT_LENGTH(n) bytes */
+    EDR_REFUSAL_BUFFER_TOO_SHORT = 34, /* room for less than EDR_REPORT_LENGTH(n) bytes */
+
+    /* the year to date, without a line */
+    EDR_REFUSAL_YEAR_RECORD = 41, /* quarter not 1 to 4 or not next in its year, a quarter 0 not all zeros, or too many hours */
+    EDR_REFUSAL_YEAR_SUM = 42     /* a sum over 9,999,999,999 tenths */
 };
 
 /* The kinds of a sheet's words, in the order in which an hour's words stand, and what their values count. */
@@ -99,6 +111,12 @@ uint64_t edr_check(const uint8_t *file, size_t length, uint64_t *answer, size_t 
    the refusal, 31 to 34. Bytes behind the report keep their values, and on a refusal all do. */
 uint64_t edr_write(uint64_t year, uint64_t quarter, const uint8_t *name, size_t name_length,
                    const uint32_t *sheet, size_t words, uint8_t *buffer, size_t room);
+
+/* Adds an accepted quarter, as edr_check answered it, to the previous record of its year, and returns an edr_year_outcome. The
+   previous record is the one that the quarter before gave; for quarter 1, the year and five zeros. Elements of the new record that are
+   not filled keep their values. */
+uint64_t edr_year_to_date(const uint64_t *previous, size_t previous_length, const uint64_t *answer, size_t answer_length,
+                          uint64_t year, uint64_t quarter, uint64_t *record, size_t room);
 
 #ifdef __cplusplus
 }

@@ -1,6 +1,8 @@
 //! Fresh cases of the second implementation's maker, answered by the proved library and by the second implementation. Prints each
 //! case whose answers differ, and at the end how many cases there were and how many differ.
 
+mod years;
+
 use std::fmt::Display;
 use std::process::ExitCode;
 
@@ -90,16 +92,18 @@ fn kind(case: &Case) -> &'static str {
 /// Compares all cases of a seed and returns how many differ.
 fn compare(seed: u64, count: usize) -> usize {
     let cases = generate::cases(seed, count);
+    let joinings = generate::years(seed, count);
     let mut comparing = Comparing::default();
+    let reports = cases.iter().map(|case| (kind(case), comparing.answers(case)));
+    let years = joinings.iter().map(|joining| ("year to date", years::joined(joining)));
     let mut differ = 0;
-    for (number, case) in cases.iter().enumerate() {
-        let Answers { proved, second } = comparing.answers(case);
+    for (number, (kind, Answers { proved, second })) in reports.chain(years).enumerate() {
         if proved != second {
             differ += 1;
-            println!("case {number}, {}: proved {proved}; second {second}", kind(case));
+            println!("case {number}, {kind}: proved {proved}; second {second}");
         }
     }
-    println!("{} cases, {differ} differ", cases.len());
+    println!("{} cases, {differ} differ", cases.len() + joinings.len());
     differ
 }
 

@@ -9,9 +9,11 @@ mod quarters;
 pub mod recorder;
 pub mod sheets;
 pub mod tight;
+mod years;
 
 use crate::cases::Case;
 use crate::random::Random;
+pub use years::Joining;
 
 /// Makes the cases of one written report.
 type Group = fn(&mut Random, usize) -> Vec<Case>;
@@ -36,4 +38,27 @@ pub fn cases(seed: u64, count: usize) -> Vec<Case> {
         }
     }
     cases
+}
+
+/// So many quarters to join of a seed, from random numbers that no other case
+/// uses.
+pub fn years(seed: u64, count: usize) -> Vec<Joining> {
+    (0..)
+        .flat_map(|number| years::joinings(&mut Random::branch(seed, 4 * number as u64 + 3), number))
+        .take(count)
+        .collect()
+}
+
+/// The family with this number, and its turn. In every round of all families
+/// each has as many turns as its share.
+fn family_of<F: Copy>(families: &[(F, usize)], number: usize) -> (F, usize) {
+    let shares: usize = families.iter().map(|(_, share)| share).sum();
+    let (round, mut place) = (number / shares, number % shares);
+    let mut index = 0;
+    while place >= families[index].1 {
+        place -= families[index].1;
+        index += 1;
+    }
+    let (family, share) = families[index];
+    (family, round * share + place)
 }

@@ -1,12 +1,13 @@
 //! A second, independent implementation of the quarterly stack report.
 //!
-//! It is written from the scope paper alone, to be held against another
-//! implementation of the same paper. It can check a report, write one from a
-//! sheet of words, and make test cases from a seed together with the answers
-//! that it gives to them.
+//! It is written from the scope paper and the customers' later requests, to be
+//! held against another implementation of the same papers. It can check a
+//! report, write one from a sheet of words, join a quarter to the year to date,
+//! and make test cases from a seed. The cases of reports can be stored with the
+//! answers that it gives to them.
 //!
-//! Whole numbers everywhere: a reading or figure is kept in its recorded unit
-//! (tenths, thousandths, scfh), and all arithmetic is exact in 128 bits.
+//! Whole numbers everywhere: a reading, figure or total is kept in its recorded
+//! unit (tenths, thousandths, scfh), and all arithmetic is exact in 128 bits.
 
 pub mod calendar;
 pub mod cases;
@@ -19,3 +20,4 @@ pub mod random;
 pub mod report;
 pub mod rounding;
 pub mod write;
+pub mod year_to_date;

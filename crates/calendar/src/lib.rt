@@ -3,6 +3,9 @@ ghost use mathlib.Core.Path.{_≡_};
 ghost use Prim.Native.Nat.{_+_, _≤_, _<_};
 ghost use Rattle.calendar.specs.Calendar.{IsQuarter, leapYear, daysInMonth, firstMonth, hoursInQuarter, daysBefore, quarterHour, dateOfHour};
 
+// No quarter has more hours.
+pub const MOST_HOURS: u64 = 2208;
+
 // A date and hour of a year that is known beside it: month and day count from 1, the hour from 0.
 pub struct Date {
     pub month: u64,

@@ -1,47 +1,52 @@
 -- The answer's numbers, stored one by one at the front of a lent slice.
-use Prim.Native.Nat.{ℕ, _≤_, _<_}
-use mathlib.Core.Path.{_≡_, refl}
+use Prim.Native.Nat.{ℕ, suc, _≤_, _<_}
+use mathlib.Core.Path.{_≡_, refl, ap, _∙_}
 use mathlib.Core.List.{List, [], _∷_}
 use native.Mathlib.Omega.{arith}
-use lib.ListN.{length, getD, drop, set}
+use lib.ListN.{length, getD, set}
 use borrow.Author.Tests.{lt-ltb, le-ltb, eq-eqb, ne-eqb}
 use Rattle.layout.specs.Layout.{stackWidth}
 use Rattle.totals.specs.declared.Quarter.{Quarter}
 use Rattle.reading.specs.declared.Refusal.{Refusal}
-use Rattle.checker.specs.Checked.{checked}
+use Rattle.checker.specs.Checked.{acceptance, refusal, checked}
 use Rattle.checker.specs.declared.Answer.the-variants.{Accepted, Refused}
 use Rattle.writer.specs.Written.{writtenNumber, answered, buffered}
-use Rattle.edr_c.specs.Boundary.{checkCode, checkFilled, writeCode, writeFilled}
+use Rattle.edr_c.specs.Boundary.{filled, answerLength, checkCode, checkFilled, writeCode, writeFilled}
 
-set-two : (l : List ℕ) (a b : ℕ) → 5 ≤ length l → set (set l 0 a) 1 b ≡ a ∷ b ∷ drop 2 l
-set-two [] a b h = absurd (omega arith)
-set-two (x ∷ []) a b h = absurd (omega arith)
-set-two (x ∷ y ∷ l) a b h = refl
+-- numbers stored one by one, from a place on
+unfoldable pub store : List ℕ → ℕ → List ℕ → List ℕ
+store [] i l = l
+store (x ∷ xs) i l = store xs (suc i) (set l i x)
 
-set-five : (l : List ℕ) (a b c d e : ℕ) → 5 ≤ length l → set (set (set (set (set l 0 a) 1 b) 2 c) 3 d) 4 e ≡ a ∷ b ∷ c ∷ d ∷ e ∷ drop 5 l
-set-five [] a b c d e h = absurd (omega arith)
-set-five (x ∷ []) a b c d e h = absurd (omega arith)
-set-five (x ∷ y ∷ []) a b c d e h = absurd (omega arith)
-set-five (x ∷ y ∷ z ∷ []) a b c d e h = absurd (omega arith)
-set-five (x ∷ y ∷ z ∷ w ∷ []) a b c d e h = absurd (omega arith)
-set-five (x ∷ y ∷ z ∷ w ∷ v ∷ l) a b c d e h = refl
+store-behind : (xs : List ℕ) (i y : ℕ) (l : List ℕ) → store xs (suc i) (y ∷ l) ≡ y ∷ store xs i l
+unfolding store
+store-behind [] i y l = refl
+store-behind (x ∷ xs) i y l = store-behind xs (suc i) y (set l i x)
+
+pub stored : (xs l : List ℕ) → length xs ≤ length l → store xs 0 l ≡ filled xs l
+unfolding store
+stored [] l h = refl
+stored (x ∷ xs) [] h = absurd (omega arith)
+stored (x ∷ xs) (y ∷ l) h = store-behind xs 0 x l ∙ ap (λ (r : List ℕ). x ∷ r) (stored xs l (omega arith))
 
 module _ (file buffer : List ℕ) where
-  pub short : length buffer < 5 → (2 ≡ checkCode file buffer) × (buffer ≡ checkFilled file buffer)
+  pub short : length buffer < answerLength → (2 ≡ checkCode file buffer) × (buffer ≡ checkFilled file buffer)
   unfolding checkCode checkFilled
-  short h = (rw (lt-ltb (length buffer) 5 h, checkCode), rw (lt-ltb (length buffer) 5 h, checkFilled))
+  short h = (rw (lt-ltb (length buffer) answerLength h, checkCode), rw (lt-ltb (length buffer) answerLength h, checkFilled))
 
-  pub accepted : (r : Quarter) → checked file ≡ Accepted r → 5 ≤ length buffer →
+  pub accepted : (r : Quarter) → checked file ≡ Accepted r → answerLength ≤ length buffer →
       (1 ≡ checkCode file buffer) × (set (set (set (set (set buffer 0 (r .hours)) 1 (r .so2)) 2 (r .co2)) 3 (r .heat)) 4 (r .nox) ≡ checkFilled file buffer)
-  unfolding checkCode checkFilled
+  unfolding checkCode checkFilled store
   accepted r e h =
-      let few = le-ltb (length buffer) 5 h in
-      (rw (few, checkCode, e), rw (few, checkFilled, e) (set-five buffer (r .hours) (r .so2) (r .co2) (r .heat) (r .nox) h))
+      let few = le-ltb (length buffer) answerLength h in
+      (rw (few, checkCode, e), rw (few, checkFilled, e) (stored (acceptance r) buffer h))
 
-  pub refused : (r : Refusal) → checked file ≡ Refused r → 5 ≤ length buffer →
+  pub refused : (r : Refusal) → checked file ≡ Refused r → answerLength ≤ length buffer →
       (0 ≡ checkCode file buffer) × (set (set buffer 0 (r .number)) 1 (r .line) ≡ checkFilled file buffer)
-  unfolding checkCode checkFilled
-  refused r e h = (rw (le-ltb (length buffer) 5 h, checkCode, e), rw (le-ltb (length buffer) 5 h, checkFilled, e) (set-two buffer (r .number) (r .line) h))
+  unfolding checkCode checkFilled store
+  refused r e h =
+      let few = le-ltb (length buffer) answerLength h in
+      (rw (few, checkCode, e), rw (few, checkFilled, e) (stored (refusal (r .number) (r .line)) buffer (omega arith)))
 
 -- six bytes one by one are the name
 pub six : (l : List ℕ) → length l ≡ stackWidth → getD l 0 0 ∷ getD l 1 0 ∷ getD l 2 0 ∷ getD l 3 0 ∷ getD l 4 0 ∷ getD l 5 0 ∷ [] ≡ l

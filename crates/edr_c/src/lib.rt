@@ -1,8 +1,20 @@
-// The boundary for C and Rust: the check and the writer on plain numbers and slices.
+// The boundary for C and Rust: the check, the writer and the year to date on plain numbers and slices.
+use annual::Joined;
+use annual::YearToDate;
 use checker::Answer;
+use totals::Quarter;
 use writer::Written;
 ghost use mathlib.Core.Path.{_≡_};
-ghost use Rattle.edr_c.specs.Boundary.{checkCode, checkFilled, writeCode, writeFilled};
+ghost use Prim.Native.Nat.{_≤_};
+ghost use lib.ListN.{length};
+ghost use Rattle.edr_c.specs.Boundary.{answerLength, yearLength, checkCode, checkFilled, writeCode, writeFilled};
+ghost use Rattle.edr_c.specs.Boundary.{quarterIn, yearIn, yearCode, yearFilled};
+
+// The numbers of an answer.
+const ANSWER_LENGTH: usize = 5;
+
+// The numbers of a year's record.
+const YEAR_LENGTH: usize = 6;
 
 // 1 and n, SO2, CO2, heat and mean in answer[0..5] where the report is accepted; 0 and number and line in answer[0..2] where it is
 // refused; 2 where the answer has fewer than five elements. Elements beyond keep their values.
@@ -11,7 +23,7 @@ pub extern "C" fn edr_check(file: &[u8], answer: &mut [u64]) -> u64
     ensures { λ r. ⌜ (r ≡ checkCode (now (file .entry)) (now (answer .entry)))
         × (now (answer .exit) ≡ checkFilled (now (file .entry)) (now (answer .entry))) ⌝ }
 {
-    if answer.len() < 5 {
+    if answer.len() < ANSWER_LENGTH {
         return 2;
     }
     match checker::check(file) {
@@ -50,5 +62,71 @@ pub extern "C" fn edr_write(
     match writer::write(year, quarter, letters, sheet, buffer) {
         Written::Length(length) => length as u64,
         Written::Refused(number) => number,
+    }
+}
+
+// An accepted answer, as `edr_check` leaves it.
+fn quarter_in(numbers: &[u64]) -> Quarter
+    requires { ⌜ answerLength ≤ length (now numbers) ⌝ }
+    ensures { λ r. ⌜ r ≡ quarterIn (now (numbers .entry)) ⌝ }
+{
+    Quarter {
+        hours: numbers[0],
+        so2: numbers[1],
+        co2: numbers[2],
+        heat: numbers[3],
+        nox: numbers[4],
+    }
+}
+
+// A year's record, as `edr_year_to_date` leaves it.
+fn year_in(numbers: &[u64]) -> YearToDate
+    requires { ⌜ yearLength ≤ length (now numbers) ⌝ }
+    ensures { λ r. ⌜ r ≡ yearIn (now (numbers .entry)) ⌝ }
+{
+    YearToDate {
+        year: numbers[0],
+        quarter: numbers[1],
+        hours: numbers[2],
+        so2: numbers[3],
+        co2: numbers[4],
+        heat: numbers[5],
+    }
+}
+
+// 1 and year, quarter, hours, SO2, CO2 and heat in record[0..6] where the quarter is joined to the previous record; 0 and the number in
+// record[0] where it is refused; 2, with nothing written, where previous, answer or record has fewer than its six, five or six elements.
+// Elements beyond keep their values.
+#[no_mangle]
+pub extern "C" fn edr_year_to_date(
+    previous: &[u64],
+    answer: &[u64],
+    year: u64,
+    quarter: u64,
+    record: &mut [u64],
+) -> u64
+    ensures { λ r. ⌜ (r ≡ yearCode (now (previous .entry)) (now (answer .entry)) year quarter (now («record» .entry)))
+        × (now («record» .exit) ≡ yearFilled (now (previous .entry)) (now (answer .entry)) year quarter (now («record» .entry))) ⌝ }
+{
+    if (previous.len() < YEAR_LENGTH)
+        | (answer.len() < ANSWER_LENGTH)
+        | (record.len() < YEAR_LENGTH)
+    {
+        return 2;
+    }
+    match annual::join(year_in(previous), year, quarter, quarter_in(answer)) {
+        Joined::Record(joined) => {
+            record[0] = joined.year;
+            record[1] = joined.quarter;
+            record[2] = joined.hours;
+            record[3] = joined.so2;
+            record[4] = joined.co2;
+            record[5] = joined.heat;
+            1
+        }
+        Joined::Refused(number) => {
+            record[0] = number;
+            0
+        }
     }
 }

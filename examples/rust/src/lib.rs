@@ -1,4 +1,4 @@
-//! The proved check and writer of quarterly stack reports, for safe Rust. Both take any input and never panic.
+//! The proved check and writer of quarterly stack reports, and the year to date, for safe Rust. All take any input and never panic.
 
 use std::fmt;
 
@@ -15,19 +15,46 @@ extern "C" {
         buffer: *mut u8,
         room: usize,
     ) -> u64;
+
+    /// The call behind [`join`], for slices of any length: see include/edr.h. `compare/` looks at every element that it lends.
+    pub fn edr_year_to_date(
+        previous: *const u64,
+        previous_length: usize,
+        answer: *const u64,
+        answer_length: usize,
+        year: u64,
+        quarter: u64,
+        record: *mut u64,
+        room: usize,
+    ) -> u64;
 }
 
 /// The numbers of an answer, and the code with which `edr_check` returns an acceptance.
 const ANSWER_LENGTH: usize = 5;
 const ACCEPTED: u64 = 1;
 
+/// The numbers of a record of the year to date, and the code with which `edr_year_to_date` returns one.
+const YEAR_LENGTH: usize = 6;
+const JOINED: u64 = 1;
+
 /// What the check says of a report.
 #[derive(Clone, Copy, Debug, PartialEq, Eq)]
 pub enum Answer {
-    /// The operating hours; SO2 tons, CO2 tons and heat input (mmBtu) in tenths; the mean NOx rate (lb/mmBtu) in thousandths.
-    Accepted { hours: u64, so2: u64, co2: u64, heat: u64, nox: u64 },
+    /// The quarter's totals.
+    Accepted(Quarter),
     /// The refusal's number and its line, counted from 1 (0 for the whole file).
     Refused { number: u64, line: u64 },
+}
+
+/// An accepted quarter: its operating hours; SO2 tons, CO2 tons and heat input (mmBtu) in tenths; the mean NOx rate (lb/mmBtu) in
+/// thousandths.
+#[derive(Clone, Copy, Debug, PartialEq, Eq)]
+pub struct Quarter {
+    pub hours: u64,
+    pub so2: u64,
+    pub co2: u64,
+    pub heat: u64,
+    pub nox: u64,
 }
 
 /// What the writer did.
@@ -36,6 +63,33 @@ pub enum Written {
     /// The report has so many bytes, at the front of the buffer; the bytes behind it are unchanged.
     Length(usize),
     /// The refusal's number, 31 to 34; no byte of the buffer is changed.
+    Refused(u64),
+}
+
+/// The year to date after a quarter: year and quarter; operating hours; SO2 tons, CO2 tons and heat input (mmBtu) in tenths.
+#[derive(Clone, Copy, Debug, PartialEq, Eq)]
+pub struct YearToDate {
+    pub year: u64,
+    pub quarter: u64,
+    pub hours: u64,
+    pub so2: u64,
+    pub co2: u64,
+    pub heat: u64,
+}
+
+impl YearToDate {
+    /// Quarter 0 of a year, all zeros, which quarter 1 is joined to.
+    pub const fn none(year: u64) -> YearToDate {
+        YearToDate { year, quarter: 0, hours: 0, so2: 0, co2: 0, heat: 0 }
+    }
+}
+
+/// What joining a quarter to the year to date gave.
+#[derive(Clone, Copy, Debug, PartialEq, Eq)]
+pub enum Joined {
+    /// The record with the quarter added.
+    Record(YearToDate),
+    /// The refusal's number, 41 or 42.
     Refused(u64),
 }
 
@@ -115,6 +169,8 @@ pub const fn meaning(number: u64) -> &'static str {
         32 => "a value of the sheet is outside its range",
         33 => "a figure of the sheet's hours is too large for its columns",
         34 => "the buffer is shorter than the report",
+        41 => "the quarter is not 1 to 4 or not next in the previous record's year, a quarter 0 is not all zeros, or hours pass 2,208 a quarter",
+        42 => "a sum of the year passes 9,999,999,999 tenths",
         _ => "no refusal has this number",
     }
 }
@@ -126,7 +182,7 @@ pub fn check(file: &[u8]) -> Answer {
     let code = unsafe { edr_check(file.as_ptr(), file.len(), answer.as_mut_ptr(), answer.len()) };
     let [hours, so2, co2, heat, nox] = answer;
     match code {
-        ACCEPTED => Answer::Accepted { hours, so2, co2, heat, nox },
+        ACCEPTED => Answer::Accepted(Quarter { hours, so2, co2, heat, nox }),
         _ => Answer::Refused { number: answer[0], line: answer[1] },
     }
 }
@@ -153,10 +209,36 @@ pub fn write(year: u64, quarter: u64, name: &[u8], sheet: &[u32], buffer: &mut [
     }
 }
 
+/// Adds an accepted quarter of a year to the year to date, which is [`YearToDate::none`] before quarter 1.
+pub fn join(previous: YearToDate, year: u64, quarter: u64, answer: Quarter) -> Joined {
+    let previous =
+        [previous.year, previous.quarter, previous.hours, previous.so2, previous.co2, previous.heat];
+    let answer = [answer.hours, answer.so2, answer.co2, answer.heat, answer.nox];
+    let mut record = [0; YEAR_LENGTH];
+    // SAFETY: each pointer and length are those of an array that is borrowed for the call.
+    let code = unsafe {
+        edr_year_to_date(
+            previous.as_ptr(),
+            previous.len(),
+            answer.as_ptr(),
+            answer.len(),
+            year,
+            quarter,
+            record.as_mut_ptr(),
+            record.len(),
+        )
+    };
+    let [year, quarter, hours, so2, co2, heat] = record;
+    match code {
+        JOINED => Joined::Record(YearToDate { year, quarter, hours, so2, co2, heat }),
+        _ => Joined::Refused(record[0]),
+    }
+}
+
 impl fmt::Display for Answer {
     fn fmt(&self, out: &mut fmt::Formatter) -> fmt::Result {
         match self {
-            Answer::Accepted { hours, so2, co2, heat, nox } => {
+            Answer::Accepted(Quarter { hours, so2, co2, heat, nox }) => {
                 write!(out, "accepted {hours} {so2} {co2} {heat} {nox}")
             }
             Answer::Refused { number, line } => write!(out, "refused {number} {line}"),
@@ -169,6 +251,22 @@ impl fmt::Display for Written {
         match self {
             Written::Length(length) => write!(out, "written {length}"),
             Written::Refused(number) => write!(out, "refused {number}"),
+        }
+    }
+}
+
+impl fmt::Display for YearToDate {
+    fn fmt(&self, out: &mut fmt::Formatter) -> fmt::Result {
+        let YearToDate { year, quarter, hours, so2, co2, heat } = self;
+        write!(out, "year to date {year} {quarter} {hours} {so2} {co2} {heat}")
+    }
+}
+
+impl fmt::Display for Joined {
+    fn fmt(&self, out: &mut fmt::Formatter) -> fmt::Result {
+        match self {
+            Joined::Record(record) => write!(out, "{record}"),
+            Joined::Refused(number) => write!(out, "refused {number}"),
         }
     }
 }

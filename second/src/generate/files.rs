@@ -3,6 +3,7 @@
 use super::changes::{self, CHANGES};
 use super::damage::damaged;
 use super::edges;
+use super::family_of;
 use super::page::Page;
 use super::recorder::{self, bytes, hour_with, readings, report, report_in};
 use crate::calendar::{hours_in_quarter, is_leap};
@@ -39,15 +40,8 @@ const FAMILIES: [(Family, usize); 19] = [
 
 /// The file with this number among all files.
 pub fn file(random: &mut Random, number: usize) -> Vec<u8> {
-    let shares: usize = FAMILIES.iter().map(|(_, share)| share).sum();
-    let (round, mut place) = (number / shares, number % shares);
-    for (family, share) in FAMILIES {
-        if place < share {
-            return family(random, round * share + place);
-        }
-        place -= share;
-    }
-    Vec::new()
+    let (family, turn) = family_of(&FAMILIES, number);
+    family(random, turn)
 }
 
 /// A page of an honest report with so many hours at least and two more at most.
