@@ -64,14 +64,12 @@ fn digits_behind(before: u64, bytes: &[u8]) -> Field
     let mut value = before;
     let mut i = 0;
     while i < bytes.len() {
-        let b = bytes[i];
-        if b < 48 {
+        // Of a digit its value; what comes before the digits wraps round and is greater than 9 too.
+        let digit = std::num::wrapping_sub_u8(bytes[i], 48);
+        if 9 < digit {
             return Field::Malformed;
         }
-        if 57 < b {
-            return Field::Malformed;
-        }
-        value = value * 10 + (b - 48) as u64;
+        value = value * 10 + digit as u64;
         i += 1;
     }
     Field::Number(value)
