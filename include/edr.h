@@ -66,13 +66,16 @@ enum edr_refusal {
 
     /* the writer, without a line */
     EDR_REFUSAL_SHEET = 31,            /* year, quarter, name, word count, a kind, or hours that do not rise or do not exist */
-    EDR_REFUSAL_SHEET_RANGE = 32,      /* a value outside its range */
+    EDR_REFUSAL_SHEET_RANGE = 32,      /* a value outside its range, or a flow that is not a whole thousand */
     EDR_REFUSAL_FIGURE_TOO_LARGE = 33, /* a figure too large for its columns */
     EDR_REFUSAL_BUFFER_TOO_SHORT = 34, /* room for less than EDR_REPORT_LENGTH(n) bytes */
 
     /* the year to date, without a line */
     EDR_REFUSAL_YEAR_RECORD = 41, /* quarter not 1 to 4 or not next in its year, a quarter 0 not all zeros, or too many hours */
-    EDR_REFUSAL_YEAR_SUM = 42     /* a sum over 9,999,999,999 tenths */
+    EDR_REFUSAL_YEAR_SUM = 42,    /* a sum over 9,999,999,999 tenths */
+
+    /* a line of the file, tried after EDR_REFUSAL_RANGE */
+    EDR_REFUSAL_FLOW_NO_WHOLE_THOUSAND = 43 /* a flow that is not a whole thousand of scfh */
 };
 
 /* The kinds of a sheet's words, in the order in which an hour's words stand, and what their values count. */
@@ -81,7 +84,7 @@ enum edr_kind {
     EDR_KIND_SO2 = 1,  /* tenths of ppm */
     EDR_KIND_NOX = 2,  /* tenths of ppm */
     EDR_KIND_CO2 = 3,  /* tenths of percent */
-    EDR_KIND_FLOW = 4, /* scfh */
+    EDR_KIND_FLOW = 4, /* scfh, whole thousands */
     EDR_KIND_FC = 5    /* tenths of scf/mmBtu */
 };
 

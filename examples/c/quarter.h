@@ -11,7 +11,7 @@
 static uint32_t sheet[EDR_HOUR_WORDS * EDR_MOST_HOURS];
 static uint8_t report[EDR_REPORT_LENGTH(EDR_MOST_HOURS)];
 
-/* Made-up readings of the hours, with flows from this one on. */
+/* Made-up readings of the hours, with flows from this one on, all whole thousands. */
 static void fill_sheet(uint32_t hours, uint32_t flow)
 {
     for (uint32_t hour = 0; hour < hours; hour++) {

@@ -116,15 +116,18 @@ impl<'a> Lines<'a> {
         }
     }
 
-    /// Value number `index` of the line just read.
+    /// Value number `index` of the line just read, in its recorded unit.
     fn value(&self, line: &[u8], record: &Record, index: usize) -> Result<u128, Fault> {
         let value = &record.values[index];
         let Some(number) = read_number(value.columns.of(line), value.decimals) else {
             return fault(8, self.read);
         };
-        match value.range {
-            Some((low, high)) if number < low || number > high => fault(9, self.read),
-            _ => Ok(number),
+        if !value.in_range(number) {
+            return fault(9, self.read);
+        }
+        match value.recorded(number) {
+            Some(recorded) => Ok(recorded),
+            None => fault(43, self.read),
         }
     }
 
@@ -242,4 +245,36 @@ fn judge(contents: &Contents) -> Result<Answer, Fault> {
         }
     }
     Ok(Answer::Accepted { hours, totals: formed })
+}
+
+#[cfg(test)]
+mod tests {
+    use super::*;
+    use crate::report::{Hour, PlainPen, Report};
+
+    /// The answer to the paper's hour with this text in the columns of flow.
+    fn answer_to(flow: &str) -> String {
+        let readings = Readings { so2: 2_500, nox: 2_000, co2: 120, flow: 20_000, fc: 18_000 };
+        let figures = FIGURES.map(|figure| figure.of_recorded(&readings));
+        let hours = vec![Hour { hour_of_quarter: 0, time: 50, readings, figures }];
+        let mut report = Report { year: 2005, quarter: 3, name: *b"STACK1", hours, totals: [0; 4] };
+        report.add_up();
+        let file = String::from_utf8(report.bytes(&mut PlainPen)).unwrap();
+        check(file.replace("  20000000", flow).as_bytes()).to_string()
+    }
+
+    #[test]
+    fn flow_is_a_number_then_in_range_then_a_whole_thousand() {
+        assert_eq!(answer_to("0020000000"), "accepted 1 2 684 6667 358");
+        for flow in ["20,000,500", " 20000.500", "  2000050x", "500000001 "] {
+            assert_eq!(answer_to(flow), "refused 8 5", "{flow}");
+        }
+        for flow in [" 500000001", " 500001000", "9999999999"] {
+            assert_eq!(answer_to(flow), "refused 9 5", "{flow}");
+        }
+        for flow in ["  20000500", "0020000001", "       999", " 499999999"] {
+            assert_eq!(answer_to(flow), "refused 43 5", "{flow}");
+        }
+        assert_eq!(answer_to(" 500000000"), "refused 11 6");
+    }
 }

@@ -21,8 +21,8 @@
 
 use crate::rounding::{half_up, span};
 
-/// Recorded readings of an hour: tenths of ppm, ppm and percent, scfh, and
-/// tenths of scf/mmBtu.
+/// Recorded readings of an hour: tenths of ppm, ppm and percent, thousands of
+/// scfh, and tenths of scf/mmBtu.
 #[derive(Clone, Copy, Debug, Default, PartialEq, Eq)]
 pub struct Readings {
     pub so2: u128,
@@ -56,14 +56,14 @@ impl Figure {
     /// The formula with the readings that it uses.
     pub fn formula(self, r: &Readings) -> Formula {
         match self {
-            // flow * (co2/10) / (100 * fc/10), in tenths
-            Figure::Heat => Formula::Product { top: 1, bottom: 10 * r.fc, x: r.flow, y: r.co2 },
-            // 1.660e-7 * (so2/10) * flow, in tenths
-            Figure::So2 => Formula::Product { top: 166, bottom: 1_000_000_000, x: r.so2, y: r.flow },
+            // (1000*flow) * (co2/10) / (100 * fc/10), in tenths
+            Figure::Heat => Formula::Product { top: 100, bottom: r.fc, x: r.flow, y: r.co2 },
+            // 1.660e-7 * (so2/10) * (1000*flow), in tenths
+            Figure::So2 => Formula::Product { top: 166, bottom: 1_000_000, x: r.so2, y: r.flow },
             // 1.194e-7 * (nox/10) * (fc/10) * 100 / (co2/10), in thousandths
             Figure::Nox => Formula::Quotient { top: 1194 * r.fc, bottom: 1_000_000, x: r.nox, y: r.co2 },
-            // 5.7e-7 * (co2/10) * flow, in tenths
-            Figure::Co2 => Formula::Product { top: 57, bottom: 100_000_000, x: r.co2, y: r.flow },
+            // 5.7e-7 * (co2/10) * (1000*flow), in tenths
+            Figure::Co2 => Formula::Product { top: 57, bottom: 100_000, x: r.co2, y: r.flow },
         }
     }
 
@@ -125,21 +125,28 @@ impl Figure {
 mod tests {
     use super::*;
 
-    const ROW: Readings = Readings { so2: 2_500, nox: 2_000, co2: 120, flow: 20_000_000, fc: 18_000 };
+    const ROW: Readings = Readings { so2: 2_500, nox: 2_000, co2: 120, flow: 20_000, fc: 18_000 };
 
     #[test]
     fn hours_to_try() {
         let dark = Readings { so2: 0, ..ROW };
         let still = Readings { so2: 0, flow: 0, ..ROW };
-        let thick = Readings { so2: 99_999, flow: 1_000_000, ..ROW };
+        let thick = Readings { so2: 99_999, flow: 1_000, ..ROW };
+        let thick_and_still = Readings { flow: 0, ..thick };
+        // Heat whose readings end, and start, exactly at 0.15 and 0.05.
+        let ends = Readings { co2: 1, flow: 50, fc: 5_050, ..ROW };
+        let starts = Readings { flow: 51, ..ends };
         for (figure, readings, low, high) in [
             (Figure::So2, ROW, 8_298, 8_302),
             (Figure::Co2, ROW, 1_362, 1_374),
-            (Figure::Heat, ROW, 13_278, 13_389),
+            (Figure::Heat, ROW, 13_277, 13_389),
             (Figure::Nox, ROW, 357, 360),
             (Figure::So2, dark, 0, 2),
             (Figure::So2, still, 0, 0),
-            (Figure::So2, thick, 16_600, 16_600),
+            (Figure::So2, thick, 16_591, 16_608),
+            (Figure::So2, thick_and_still, 0, 8),
+            (Figure::Heat, ends, 0, 1),
+            (Figure::Heat, starts, 1, 2),
         ] {
             assert_eq!(figure.edges(&readings), (low, high), "{figure:?}");
             assert!(figure.possible(&readings, low) && figure.possible(&readings, high));

@@ -4,6 +4,7 @@ mod changes;
 mod damage;
 mod edges;
 mod files;
+mod flows;
 mod page;
 mod quarters;
 pub mod recorder;

@@ -17,13 +17,36 @@ impl Columns {
     }
 }
 
-/// One value on a line: its columns, its decimals (0 for the paper's I) and
-/// its range in the recorded unit, if it has one.
+/// One value on a line: its columns, its decimals (0 for the paper's I), its
+/// range, if it has one, and the unit in which it is recorded. A number as it
+/// stands in the columns, and with it range and unit, counts the last decimal.
 #[derive(Clone, Copy, Debug)]
 pub struct Value {
     pub columns: Columns,
     pub decimals: usize,
     pub range: Option<(u128, u128)>,
+    pub unit: u128,
+}
+
+impl Value {
+    /// The largest number that the columns hold.
+    pub fn largest(&self) -> u128 {
+        let digits = self.columns.1 - usize::from(self.decimals > 0);
+        10u128.pow(digits as u32) - 1
+    }
+
+    /// Whether a number is in the range, or, where there is none, fits into the
+    /// columns.
+    pub fn in_range(&self, number: u128) -> bool {
+        let (low, high) = self.range.unwrap_or((0, self.largest()));
+        (low..=high).contains(&number)
+    }
+
+    /// A number as a count of the recorded unit, or nothing if it is no whole
+    /// multiple of it.
+    pub fn recorded(&self, number: u128) -> Option<u128> {
+        number.is_multiple_of(self.unit).then_some(number / self.unit)
+    }
 }
 
 /// One record type.
@@ -47,13 +70,16 @@ pub const DATE_200: Columns = Columns(16, 8);
 
 /// A value that may be anything its columns hold.
 const fn free(start: usize, width: usize, decimals: usize) -> Value {
-    Value { columns: Columns(start, width), decimals, range: None }
+    Value { columns: Columns(start, width), decimals, range: None, unit: 1 }
 }
 
 /// A value with a range.
 const fn ranged(start: usize, width: usize, decimals: usize, low: u128, high: u128) -> Value {
-    Value { columns: Columns(start, width), decimals, range: Some((low, high)) }
+    Value { range: Some((low, high)), ..free(start, width, decimals) }
 }
+
+/// Flow in scfh, recorded to the nearest thousand.
+pub const FLOW: Value = Value { unit: 1_000, ..ranged(39, 10, 0, 0, 500_000_000) };
 
 const fn record(
     kind: &'static [u8; 3],
@@ -68,7 +94,7 @@ pub const R100: Record = record(b"100", 14, None, &[]);
 pub const R200: Record = record(b"200", 40, Some(DATE_200), &[free(35, 6, 1)]);
 pub const R201: Record = record(b"201", 34, Some(Columns(16, 8)), &[free(29, 6, 1)]);
 pub const R202: Record = record(b"202", 34, Some(Columns(16, 8)), &[ranged(29, 6, 1, 1, 1000)]);
-pub const R220: Record = record(b"220", 48, Some(Columns(16, 8)), &[ranged(39, 10, 0, 0, 500_000_000)]);
+pub const R220: Record = record(b"220", 48, Some(Columns(16, 8)), &[FLOW]);
 pub const R300: Record =
     record(b"300", 42, Some(Columns(10, 8)), &[ranged(18, 4, 2, 1, 100), free(36, 7, 1)]);
 pub const R301: Record =
@@ -138,12 +164,6 @@ pub fn plain_number(number: u128, decimals: usize) -> String {
     format!("{whole}.{fraction}")
 }
 
-/// The largest number that the columns of a value hold.
-pub fn largest(value: &Value) -> u128 {
-    let digits = value.columns.1 - usize::from(value.decimals > 0);
-    10u128.pow(digits as u32) - 1
-}
-
 #[cfg(test)]
 mod tests {
     use super::*;
@@ -180,5 +200,15 @@ mod tests {
             }
         }
         assert_eq!(plain_number(5, 3), "0.005");
+    }
+
+    #[test]
+    fn flow_is_recorded_in_thousands() {
+        for (number, recorded) in [(0, Some(0)), (1, None), (500, None), (999, None), (1_000, Some(1))] {
+            assert_eq!(FLOW.recorded(number), recorded);
+        }
+        assert_eq!(FLOW.recorded(500_000_000), Some(500_000));
+        assert!(FLOW.in_range(500_000_000) && !FLOW.in_range(500_000_001));
+        assert_eq!(R200.values[0].recorded(2_501), Some(2_501));
     }
 }

@@ -7,7 +7,8 @@
 //! answers that it gives to them.
 //!
 //! Whole numbers everywhere: a reading, figure or total is kept in its recorded
-//! unit (tenths, thousandths, scfh), and all arithmetic is exact in 128 bits.
+//! unit (tenths, thousandths, thousands of scfh), and all arithmetic is exact in
+//! 128 bits.
 
 pub mod calendar;
 pub mod cases;

@@ -78,7 +78,7 @@ impl Report {
         HOURLY.iter().chain([&R301]).all(|record| {
             let one = |hour: Option<&Hour>| {
                 let numbers = self.numbers(record, hour);
-                numbers.iter().zip(record.values).all(|(&n, v)| n <= largest(v))
+                numbers.iter().zip(record.values).all(|(&n, v)| n * v.unit <= v.largest())
             };
             match record.date {
                 Some(_) => self.hours.iter().all(|hour| one(Some(hour))),
@@ -87,7 +87,7 @@ impl Report {
         })
     }
 
-    /// The values of one line, left to right.
+    /// The values of one line, left to right, in their recorded units.
     fn numbers(&self, record: &Record, hour: Option<&Hour>) -> Vec<u128> {
         let Some(Hour { time, readings: r, figures: f, .. }) = hour else {
             return if record.kind == b"301" { self.totals.to_vec() } else { Vec::new() };
@@ -120,7 +120,7 @@ impl Report {
             columns.of_mut(&mut line).copy_from_slice(date.as_bytes());
         }
         for (number, value) in self.numbers(record, hour).into_iter().zip(record.values) {
-            let text = pen.number(value.columns.1, number, value.decimals);
+            let text = pen.number(value.columns.1, number * value.unit, value.decimals);
             value.columns.of_mut(&mut line).copy_from_slice(&text);
         }
         paper.append(&mut line);

@@ -2,7 +2,7 @@
 
 use crate::calendar::hours_in_quarter;
 use crate::figures::{Readings, FIGURES};
-use crate::layout::{largest, report_length, R200, R201, R202, R220, R300, R310, R320, R330};
+use crate::layout::{report_length, FLOW, R200, R201, R202, R220, R300, R310, R320, R330};
 use crate::report::{Hour, PlainPen, Report};
 
 /// Words of the sheet to an hour.
@@ -36,10 +36,10 @@ pub fn write(order: &Order, buffer: &mut [u8]) -> Result<usize, u32> {
     if !order_is_sound(order) {
         return Err(31);
     }
-    let hours: Vec<Hour> = order.words.chunks(WORDS).map(hour_of).collect();
-    if !hours.iter().all(in_range) {
+    if !order.words.chunks(WORDS).all(in_range) {
         return Err(32);
     }
+    let hours: Vec<Hour> = order.words.chunks(WORDS).map(hour_of).collect();
     if !hours.iter().all(figures_fit) {
         return Err(33);
     }
@@ -72,46 +72,43 @@ fn order_is_sound(order: &Order) -> bool {
         return false;
     }
     let kinds_stand = order.words.iter().zip((0..WORDS as u32).cycle()).all(|(&w, kind)| kind_of(w) == kind);
-    let hours: Vec<u32> = order.words.chunks(WORDS).map(|words| value_of(words[0]) / 128).collect();
+    let hours: Vec<u32> = order.words.chunks(WORDS).map(|words| hour_and_time(words[0]).0).collect();
     let count = hours_in_quarter(order.year, order.quarter);
     kinds_stand && hours.iter().all(|&hour| hour < count) && hours.windows(2).all(|pair| pair[0] < pair[1])
 }
 
-/// One hour with the figures of its recorded readings. Figures are left at 0
-/// for readings without a formula value (no CO2 or no Fc); such an hour is
-/// out of range anyhow.
-pub fn hour_of(words: &[u32]) -> Hour {
-    let value = |index: usize| u128::from(value_of(words[index]));
-    let readings = Readings { so2: value(1), nox: value(2), co2: value(3), flow: value(4), fc: value(5) };
-    let mut figures = [0; 4];
-    if readings.co2 > 0 && readings.fc > 0 {
-        figures = FIGURES.map(|figure| figure.of_recorded(&readings));
-    }
-    Hour { hour_of_quarter: value_of(words[0]) / 128, time: value(0) % 128, readings, figures }
+/// The hour of the quarter and the time in an hour's first word.
+fn hour_and_time(word: u32) -> (u32, u32) {
+    (value_of(word) / 128, value_of(word) % 128)
 }
 
-/// Whether all values of the hour are in their ranges, or, where there is
-/// none, fit into their columns.
-fn in_range(hour: &Hour) -> bool {
-    let r = &hour.readings;
-    let pairs = [
-        (hour.time, &R300.values[0]),
-        (r.so2, &R200.values[0]),
-        (r.nox, &R201.values[0]),
-        (r.co2, &R202.values[0]),
-        (r.flow, &R220.values[0]),
-        (r.fc, &R320.values[0]),
-    ];
-    pairs.iter().all(|(number, value)| {
-        let (low, high) = value.range.unwrap_or((0, largest(value)));
-        (low..=high).contains(number)
+/// Whether all values of an hour's words are in their ranges, or, where there is
+/// none, fit into their columns; and are whole multiples of their units.
+fn in_range(words: &[u32]) -> bool {
+    let values = [&R300, &R200, &R201, &R202, &R220, &R320].map(|record| record.values[0]);
+    let (_, time) = hour_and_time(words[0]);
+    let numbers = [time].into_iter().chain(words[1..].iter().map(|&word| value_of(word)));
+    numbers.zip(values).all(|(number, value)| {
+        let number = u128::from(number);
+        value.in_range(number) && value.recorded(number).is_some()
     })
+}
+
+/// One hour of a sheet whose values are in range, with the figures of its
+/// recorded readings.
+pub fn hour_of(words: &[u32]) -> Hour {
+    let (hour_of_quarter, time) = hour_and_time(words[0]);
+    let value = |index: usize| u128::from(value_of(words[index]));
+    let flow = value(4) / FLOW.unit;
+    let readings = Readings { so2: value(1), nox: value(2), co2: value(3), flow, fc: value(5) };
+    let figures = FIGURES.map(|figure| figure.of_recorded(&readings));
+    Hour { hour_of_quarter, time: time.into(), readings, figures }
 }
 
 /// Whether all figures of the hour fit into their columns.
 fn figures_fit(hour: &Hour) -> bool {
     let columns = [&R300.values[1], &R310.values[0], &R320.values[1], &R330.values[0]];
-    hour.figures.iter().zip(columns).all(|(&figure, value)| figure <= largest(value))
+    hour.figures.iter().zip(columns).all(|(&figure, value)| figure <= value.largest())
 }
 
 #[cfg(test)]
@@ -155,7 +152,24 @@ mod tests {
         order.words[3] = word(3, 1_000);
         order.words[5] = word(5, 5_000);
         assert_eq!(write(&order, &mut []), Err(33));
+        order.words[4] = word(4, 500_000_001);
+        assert_eq!(write(&order, &mut []), Err(32));
         order.words[0] = word(1, 50);
         assert_eq!(write(&order, &mut []), Err(31));
+    }
+
+    #[test]
+    fn flow_is_taken_in_whole_thousands_up_to_its_limit() {
+        let mut buffer = [0; 382];
+        for (flow, number) in [(0, None), (1, Some(32)), (500, Some(32)), (999, Some(32)), (1_000, None)]
+            .into_iter()
+            .chain([(20_000_500, Some(32)), (500_000_000, None), (500_000_001, Some(32))])
+            .chain([(500_001_000, Some(32)), (0x1FFF_FFFF, Some(32))])
+        {
+            let mut order = example();
+            order.words[1] = word(1, 10);
+            order.words[4] = word(4, flow);
+            assert_eq!(write(&order, &mut buffer).err(), number, "{flow}");
+        }
     }
 }

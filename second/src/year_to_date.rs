@@ -103,7 +103,7 @@ fn can_follow(previous: &Quarters, own: &Quarters) -> bool {
 #[cfg(test)]
 mod tests {
     use super::*;
-    use crate::layout::{largest, R301};
+    use crate::layout::R301;
 
     const FIRST: [u64; RECORD] = [2005, 1, 2_160, 11, 222, 3_333];
     const ANSWERED: [u64; ANSWER] = [1, 2, 684, 6_667, 358];
@@ -196,7 +196,7 @@ mod tests {
     #[test]
     fn no_sum_passes_what_line_301_holds() {
         for sum in 0..3 {
-            assert_eq!(u128::from(MOST_SUM), largest(&R301.values[sum]));
+            assert_eq!(u128::from(MOST_SUM), R301.values[sum].largest());
             let added = |previous, answer| {
                 let (mut record, mut quarter) = (FIRST, ANSWERED);
                 (record[3 + sum], quarter[1 + sum]) = (previous, answer);

@@ -2,10 +2,21 @@
 //! and the same bytes each time.
 
 use second::cases::{decode, Answering, Case};
-use second::generate::cases;
+use second::check::{check, Answer, Fault};
+use second::figures::{Figure, Readings};
+use second::generate::{cases, tight};
+use second::layout::{line_of, read_number, FLOW, HOURLY, R220};
 use second::list::{count, number_of};
+use second::report::place;
+use second::write::{word, write, Order, WORDS};
+use std::collections::BTreeMap;
+use std::ops::RangeInclusive;
+use std::sync::LazyLock;
 
 const COUNT: usize = 1_700;
+
+/// The cases of seed 1.
+static CASES: LazyLock<Vec<Case>> = LazyLock::new(|| cases(1, COUNT));
 
 #[test]
 fn every_refusal_occurs_often() {
@@ -13,7 +24,7 @@ fn every_refusal_occurs_often() {
         let all = cases(seed, COUNT);
         assert!(all.len() >= 2_000);
         let (counts, _) = count(&all);
-        for number in (1..=14).chain(21..=24).chain(31..=34) {
+        for number in (1..=14).chain(21..=24).chain(31..=34).chain([43]) {
             let times: usize = counts.get(&number).map_or(0, |row| row.iter().sum());
             assert!(times >= 15, "seed {seed}: refusal {number} occurs {times} times");
         }
@@ -34,7 +45,7 @@ fn cases_follow_from_the_seed_alone() {
     assert!(bytes.len() <= 2_500_000);
     assert_eq!(bytes, encoded(1, COUNT));
     assert_ne!(encoded(1, 50), encoded(2, 50));
-    assert_eq!(decode(&bytes), Some(cases(1, COUNT)));
+    assert_eq!(decode(&bytes).as_ref(), Some(&*CASES));
 }
 
 /// Figures fail in first, middle and last hours; each written report is
@@ -45,9 +56,9 @@ fn cases_are_well_formed_and_spread_over_the_hours() {
     let mut written = None;
     let mut later = [0; 4];
     let mut first = [0; 4];
-    for case in cases(1, COUNT) {
-        let answer = answering.answer(&case);
-        match &case {
+    for case in CASES.iter() {
+        let answer = answering.answer(case);
+        match case {
             Case::Write { order, room } => {
                 written = answer[0].strip_prefix("written ").map(|rest| {
                     let length: usize = rest.split(' ').next().unwrap().parse().unwrap();
@@ -78,4 +89,200 @@ fn cases_are_well_formed_and_spread_over_the_hours() {
         }
     }
     assert!(first.iter().chain(&later).all(|&times| times >= 10), "{first:?} {later:?}");
+}
+
+/// The files of seed 1, each with the number and line of its refusal, both 0
+/// for an acceptance.
+fn files() -> impl Iterator<Item = (&'static [u8], u32, usize)> {
+    CASES.iter().filter_map(|case| match case {
+        Case::File(bytes) => {
+            let (number, line) = refusal(bytes);
+            Some((bytes.as_slice(), number, line))
+        }
+        _ => None,
+    })
+}
+
+fn refusal(file: &[u8]) -> (u32, usize) {
+    match check(file) {
+        Answer::Accepted { .. } => (0, 0),
+        Answer::Refused(Fault { number, line }) => (number, line),
+    }
+}
+
+/// The columns of flow on a line, if it is a whole 220 line.
+fn flow_columns(line: &[u8]) -> Option<&[u8]> {
+    let whole = line.starts_with(R220.kind) && line.len() == R220.length;
+    whole.then(|| FLOW.columns.of(line))
+}
+
+/// The flow on a line, if it is one and no whole thousand.
+fn uneven_flow(line: &[u8]) -> Option<u128> {
+    let flow = read_number(flow_columns(line)?, FLOW.decimals)?;
+    FLOW.recorded(flow).is_none().then_some(flow)
+}
+
+/// Whether the columns of flow hold no number, and the digits among them one
+/// that is no whole thousand.
+fn broken_uneven_flow(line: &[u8]) -> bool {
+    flow_columns(line).is_some_and(|text| {
+        let digits: Vec<u8> = text.iter().copied().filter(u8::is_ascii_digit).collect();
+        let number = read_number(&digits, FLOW.decimals);
+        read_number(text, FLOW.decimals).is_none() && number.is_some_and(|n| FLOW.recorded(n).is_none())
+    })
+}
+
+/// The file with every flow cut to its whole thousand.
+fn evened(file: &[u8]) -> Vec<u8> {
+    let mut lines: Vec<Vec<u8>> = file.split(|&byte| byte == b'\n').map(<[u8]>::to_vec).collect();
+    for line in &mut lines {
+        if let Some(flow) = uneven_flow(line) {
+            let text = format!("{:>10}", flow / FLOW.unit * FLOW.unit);
+            FLOW.columns.of_mut(line).copy_from_slice(text.as_bytes());
+        }
+    }
+    lines.join(&b'\n')
+}
+
+/// How often there was each number.
+type Times = BTreeMap<u32, usize>;
+
+fn add(times: &mut Times, number: u32) {
+    *times.entry(number).or_default() += 1;
+}
+
+fn sum(times: &Times, numbers: RangeInclusive<u32>) -> usize {
+    times.range(numbers).map(|(_, times)| times).sum()
+}
+
+/// Flow that is no whole thousand, whatever is left over, in first and later
+/// hours; alone, before other faults and behind them; too large or no number.
+#[test]
+fn flows_that_are_no_whole_thousand() {
+    let [mut remainders, mut faults_behind, mut faults_before] = [(); 3].map(|()| Times::new());
+    let (mut first, mut later, mut too_large, mut broken) = (0, 0, 0, 0);
+    for (file, number, line) in files() {
+        let lines: Vec<&[u8]> = file.split(|&byte| byte == b'\n').collect();
+        match number {
+            43 => {
+                let flow = uneven_flow(lines[line - 1]).expect("no whole thousand");
+                add(&mut remainders, (flow % FLOW.unit) as u32);
+                add(&mut faults_behind, refusal(&evened(file)).0);
+                if lines[line - 2].starts_with(R220.kind) {
+                    later += 1;
+                } else {
+                    first += 1;
+                }
+            }
+            9 if uneven_flow(lines[line - 1]).is_some() => too_large += 1,
+            8 if broken_uneven_flow(lines[line - 1]) => broken += 1,
+            _ if lines.iter().any(|line| uneven_flow(line).is_some()) => add(&mut faults_before, number),
+            _ => {}
+        }
+    }
+    assert!([1, 500, 999].iter().all(|over| remainders[over] >= 20), "{remainders:?}");
+    assert!(remainders.len() >= 20, "{remainders:?}");
+    assert!(first >= 40 && later >= 40, "{first} {later}");
+    assert!(too_large >= 20 && broken >= 20, "{too_large} {broken}");
+    for (numbers, least) in [(0..=0, 40), (2..=10, 20), (11..=14, 20), (21..=24, 10)] {
+        assert!(sum(&faults_behind, numbers) >= least, "{faults_behind:?}");
+    }
+    assert!([2, 3, 4, 5, 7].iter().all(|number| faults_before[number] >= 3), "{faults_before:?}");
+    assert!(sum(&faults_before, 2..=9) >= 30, "{faults_before:?}");
+}
+
+/// The sheet with every flow word cut to its whole thousand.
+fn evened_sheet(order: &Order) -> Order {
+    let mut order = order.clone();
+    for hour in order.words.chunks_exact_mut(WORDS) {
+        hour[4] -= (hour[4] & 0x1FFF_FFFF) % 1_000;
+    }
+    order
+}
+
+/// Flow words that are no whole thousand: alone, and beside every other number
+/// of the writer; and words about the end of the range.
+#[test]
+fn flow_words_that_are_no_whole_thousand() {
+    let mut beside = Times::new();
+    let mut ends = BTreeMap::<(u32, u32), usize>::new();
+    for case in CASES.iter() {
+        let Case::Write { order, room } = case else { continue };
+        let number_of = |order: &Order| write(order, &mut vec![0; *room]).err().unwrap_or(0);
+        let (number, even) = (number_of(order), evened_sheet(order));
+        if even != *order {
+            let other = number_of(&even);
+            assert_eq!(number, if other == 31 { 31 } else { 32 });
+            add(&mut beside, other);
+        }
+        for flow in [500_000_000, 500_000_001, 500_001_000] {
+            if order.words.contains(&word(4, flow)) {
+                *ends.entry((flow, number)).or_default() += 1;
+            }
+        }
+    }
+    assert!([0, 31].iter().all(|number| beside[number] >= 20), "{beside:?}");
+    assert!([32, 33, 34].iter().all(|number| beside[number] >= 5), "{beside:?}");
+    for end in [(500_000_000, 0), (500_000_001, 32), (500_001_000, 32)] {
+        assert!(ends[&end] >= 3, "{ends:?}");
+    }
+}
+
+/// Readings and figures of the hours of a file whose lines are right.
+fn hours_of(file: &[u8]) -> Vec<(Readings, [u128; 4])> {
+    let lines: Vec<&[u8]> = file.split(|&byte| byte == b'\n').collect();
+    let hours = (file.len() - 64) / 318;
+    let hour = |rank| {
+        let number = |block: usize, index: usize| {
+            let value = &HOURLY[block].values[index];
+            let text = value.columns.of(lines[line_of(block, hours, rank) - 1]);
+            read_number(text, value.decimals).and_then(|number| value.recorded(number)).unwrap()
+        };
+        let [so2, nox, co2, flow] = [0, 1, 2, 3].map(|block| number(block, 0));
+        let readings = Readings { so2, nox, co2, flow, fc: number(6, 0) };
+        (readings, [number(4, 1), number(5, 0), number(6, 1), number(7, 0)])
+    };
+    (0..hours).map(hour).collect()
+}
+
+/// Heat whose span the readings' values only just miss, at either edge, and the
+/// figure next to it, which passes.
+#[test]
+fn heat_that_is_met_exactly() {
+    let meets = |readings: &Readings, heat, upper| tight::meets(Figure::Heat, readings, heat, upper);
+    let (mut missed, mut beside) = ([0; 2], [0; 2]);
+    for (file, number, _) in files().filter(|(_, number, _)| [0, 11].contains(number)) {
+        for (readings, [heat, ..]) in hours_of(file) {
+            for upper in [true, false] {
+                let outward = if upper { heat + 1 } else { heat.saturating_sub(1) };
+                if number == 11 && meets(&readings, heat, upper) {
+                    missed[usize::from(upper)] += 1;
+                } else if number == 0 && meets(&readings, outward, upper) {
+                    beside[usize::from(upper)] += 1;
+                }
+            }
+        }
+    }
+    assert!(missed.iter().chain(&beside).all(|&times| times >= 10), "{missed:?} {beside:?}");
+}
+
+/// Hours with flow 0: figures above 0 that pass, and one past the last of them.
+#[test]
+fn hours_without_flow() {
+    let (mut passed, mut past) = ([0; 4], [0; 4]);
+    for (file, number, _) in files().filter(|(_, number, _)| [0, 11, 12, 14].contains(number)) {
+        for (readings, figures) in hours_of(file).iter().filter(|(readings, _)| readings.flow == 0) {
+            for figure in [Figure::Heat, Figure::So2, Figure::Co2] {
+                let index = place(figure);
+                if number == 0 && figures[index] > 0 {
+                    passed[index] += 1;
+                } else if figures[index] == figure.edges(readings).1 + 1 {
+                    past[index] += 1;
+                }
+            }
+        }
+    }
+    // A CO2 figure of such an hour is always 0.
+    assert!(passed[0] >= 20 && passed[1] >= 20 && passed[3] == 0, "{passed:?}");
+    assert!([0, 1, 3].iter().all(|&index| past[index] >= 8), "{past:?}");
 }

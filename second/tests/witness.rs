@@ -39,30 +39,60 @@ impl Fraction {
     fn over(&self, other: &Fraction) -> Fraction {
         Fraction { top: self.top.times(&other.bottom), bottom: self.bottom.times(&other.top) }
     }
+
+    fn less(&self, other: &Fraction) -> bool {
+        self.top.times(&other.bottom) < other.top.times(&self.bottom)
+    }
 }
 
 fn fraction(top: u128, bottom: u128) -> Fraction {
     Fraction { top: Big::of(top), bottom: Big::of(bottom) }
 }
 
-/// Whether a value is at least v - u/2, for `recorded` = v/u and
-/// `per_unit` = 1/u.
-fn reaches(value: &Fraction, recorded: u128, per_unit: u128) -> bool {
-    recorded == 0 || value.top.times_small(2 * per_unit) >= value.bottom.times_small(2 * recorded - 1)
+/// A recorded number v, as the count v/u of its unit u.
+#[derive(Clone, Copy)]
+struct Recorded {
+    count: u128,
+    unit: Unit,
 }
 
-/// Whether a value rounds to the recorded number.
-fn rounds_to(value: &Fraction, recorded: u128, per_unit: u128) -> bool {
-    reaches(value, recorded, per_unit)
-        && value.top.times_small(2 * per_unit) < value.bottom.times_small(2 * recorded + 1)
+/// A unit as the paper has it: a whole number over a whole number.
+#[derive(Clone, Copy)]
+struct Unit(u128, u128);
+
+const TENTH: Unit = Unit(1, 10);
+const THOUSANDTH: Unit = Unit(1, 1_000);
+const THOUSAND: Unit = Unit(1_000, 1);
+
+impl Unit {
+    fn times(self, count: u128) -> Recorded {
+        Recorded { count, unit: self }
+    }
 }
 
-/// The place after `step` of all steps from the lower end of a recorded
-/// reading's span to its upper end.
-fn walk(recorded: u128, per_unit: u128, step: u128) -> Fraction {
-    let low = (2 * recorded).saturating_sub(1);
-    let width = 2 * recorded + 1 - low;
-    fraction(low * STEPS + width * step, 2 * per_unit * STEPS)
+impl Recorded {
+    /// So many halves of the unit.
+    fn halves(self, count: u128) -> Fraction {
+        fraction(count * self.unit.0, 2 * self.unit.1)
+    }
+
+    /// Whether a value is at least v - u/2.
+    fn reached_by(self, value: &Fraction) -> bool {
+        self.count == 0 || !value.less(&self.halves(2 * self.count - 1))
+    }
+
+    /// Whether a value rounds to v.
+    fn rounded_from(self, value: &Fraction) -> bool {
+        self.reached_by(value) && value.less(&self.halves(2 * self.count + 1))
+    }
+
+    /// The place after `step` of all steps from the lower end of the span to its
+    /// upper end.
+    fn walk(self, step: u128) -> Fraction {
+        let low = (2 * self.count).saturating_sub(1);
+        let width = 2 * self.count + 1 - low;
+        self.halves(low * STEPS + width * step).over(&fraction(STEPS, 1))
+    }
 }
 
 /// A formula of the paper, with its two unrounded readings in the paper's
@@ -81,24 +111,24 @@ fn formula(figure: Figure, x: &Fraction, y: &Fraction, fc: u128) -> Fraction {
     }
 }
 
-/// The two recorded readings of a formula with the parts of their units, and
-/// the parts of the figure's unit.
-fn inputs(figure: Figure, r: &Readings) -> ((u128, u128), (u128, u128), u128) {
+/// The two recorded readings of a formula, and the unit of its figure.
+fn inputs(figure: Figure, r: &Readings) -> (Recorded, Recorded, Unit) {
     match figure {
-        Figure::Heat => ((r.flow, 1), (r.co2, 10), 10),
-        Figure::So2 => ((r.so2, 10), (r.flow, 1), 10),
-        Figure::Nox => ((r.nox, 10), (r.co2, 10), 1_000),
-        Figure::Co2 => ((r.co2, 10), (r.flow, 1), 10),
+        Figure::Heat => (THOUSAND.times(r.flow), TENTH.times(r.co2), TENTH),
+        Figure::So2 => (TENTH.times(r.so2), THOUSAND.times(r.flow), TENTH),
+        Figure::Nox => (TENTH.times(r.nox), TENTH.times(r.co2), THOUSANDTH),
+        Figure::Co2 => (TENTH.times(r.co2), THOUSAND.times(r.flow), TENTH),
     }
 }
 
 /// Two unrounded readings that lie behind the figure, or nothing.
 fn witness(figure: Figure, readings: &Readings, wanted: u128) -> Option<(Fraction, Fraction)> {
-    let ((x, x_unit), (y, y_unit), unit) = inputs(figure, readings);
+    let (x, y, unit) = inputs(figure, readings);
+    let wanted = unit.times(wanted);
     let at = |step: u128| {
         // The quotient grows while its lower reading shrinks.
         let y_step = if figure == Figure::Nox { STEPS - step } else { step };
-        (walk(x, x_unit, step), walk(y, y_unit, y_step))
+        (x.walk(step), y.walk(y_step))
     };
     let value = |step: u128| {
         let (x, y) = at(step);
@@ -108,16 +138,16 @@ fn witness(figure: Figure, readings: &Readings, wanted: u128) -> Option<(Fractio
     let (mut low, mut high) = (first, STEPS - 1);
     while low < high {
         let half = (low + high) / 2;
-        if reaches(&value(half), wanted, unit) {
+        if wanted.reached_by(&value(half)) {
             high = half;
         } else {
             low = half + 1;
         }
     }
     let (a, b) = at(low);
-    let lies_behind = rounds_to(&a, x, x_unit)
-        && rounds_to(&b, y, y_unit)
-        && rounds_to(&formula(figure, &a, &b, readings.fc), wanted, unit);
+    let lies_behind = x.rounded_from(&a)
+        && y.rounded_from(&b)
+        && wanted.rounded_from(&formula(figure, &a, &b, readings.fc));
     lies_behind.then_some((a, b))
 }
 
@@ -140,18 +170,24 @@ fn agree_at_edges(figure: Figure, readings: &Readings) {
 
 #[test]
 fn hours_to_try() {
-    let row = Readings { so2: 2_500, nox: 2_000, co2: 120, flow: 20_000_000, fc: 18_000 };
+    let row = Readings { so2: 2_500, nox: 2_000, co2: 120, flow: 20_000, fc: 18_000 };
     let dark = Readings { so2: 0, ..row };
     let still = Readings { so2: 0, flow: 0, ..row };
-    let thick = Readings { so2: 99_999, flow: 1_000_000, ..row };
-    let table: [(Figure, Readings, &[u128], &[u128]); 7] = [
+    let thick = Readings { so2: 99_999, flow: 1_000, ..row };
+    let thick_and_still = Readings { flow: 0, ..thick };
+    let ends = Readings { co2: 1, flow: 50, fc: 5_050, ..row };
+    let starts = Readings { flow: 51, ..ends };
+    let table: [(Figure, Readings, &[u128], &[u128]); 10] = [
         (Figure::So2, row, &[8_298, 8_302], &[8_297, 8_303]),
         (Figure::Co2, row, &[1_362, 1_374], &[1_361, 1_375]),
-        (Figure::Heat, row, &[13_278, 13_389], &[13_277, 13_390]),
+        (Figure::Heat, row, &[13_277, 13_389], &[13_276, 13_390]),
         (Figure::Nox, row, &[357, 360], &[356, 361]),
         (Figure::So2, dark, &[0, 2], &[3]),
         (Figure::So2, still, &[0], &[1]),
-        (Figure::So2, thick, &[16_600], &[16_599, 16_601]),
+        (Figure::So2, thick, &[16_591, 16_600, 16_608], &[16_590, 16_609]),
+        (Figure::So2, thick_and_still, &[0, 8], &[9]),
+        (Figure::Heat, ends, &[1], &[2]),
+        (Figure::Heat, starts, &[1], &[0]),
     ];
     for (figure, readings, passing, outside) in table {
         assert!(passing.iter().all(|&wanted| agree(figure, &readings, wanted)));
@@ -175,11 +211,44 @@ fn ends_that_meet_exactly() {
     }
 }
 
+/// The same of heat, where flow and CO2 meet an end exactly.
+#[test]
+fn heat_that_meets_exactly() {
+    let mut random = Random::new(6);
+    for turn in 0..400 {
+        let upper = turn % 2 == 0;
+        let (readings, figure) = tight::exact_heat(&mut random, upper);
+        assert!(!agree(Figure::Heat, &readings, figure));
+        assert!(agree(Figure::Heat, &readings, if upper { figure - 1 } else { figure + 1 }));
+    }
+}
+
+/// Recorded flow 0 leaves room for figures above 0.
+#[test]
+fn hours_without_flow() {
+    let mut random = Random::new(7);
+    let mut above_zero = 0;
+    for _ in 0..200 {
+        let readings = Readings {
+            so2: random.between(0, 99_999),
+            co2: random.between(1, 1_000),
+            fc: random.between(5_000, 30_000),
+            ..Readings::default()
+        };
+        for figure in [Figure::Heat, Figure::So2, Figure::Co2] {
+            agree_at_edges(figure, &readings);
+            assert!(agree(figure, &readings, 0));
+            above_zero += usize::from(figure.edges(&readings).1 > 0);
+        }
+    }
+    assert!(above_zero > 100, "{above_zero}");
+}
+
 #[test]
 fn ends_of_all_ranges() {
     for so2 in [0, 1, 99_999] {
         for co2 in [1, 2, 999, 1_000] {
-            for flow in [0, 1, 2, 499_999_999, 500_000_000] {
+            for flow in [0, 1, 2, 499_999, 500_000] {
                 for fc in [5_000, 18_000, 30_000] {
                     let readings = Readings { so2, nox: 99_999 - so2, co2, flow, fc };
                     FIGURES.iter().for_each(|&figure| agree_at_edges(figure, &readings));
@@ -197,7 +266,7 @@ fn many_random_hours() {
             so2: random.spread(99_999),
             nox: random.spread(99_999),
             co2: random.spread(1_000).max(1),
-            flow: random.spread(500_000_000),
+            flow: random.spread(500_000),
             fc: random.between(5_000, 30_000),
         };
         for figure in FIGURES {

@@ -16,7 +16,7 @@ use Rattle.checker.specs.Checked.{acceptance, numbersOf, checked}
 use Rattle.checker.specs.Promise.{SetsBehind, HonestlyRounded}
 use Rattle.checker.specs.PromiseLaws.{honest-checked}
 use Rattle.checker.specs.declared.Answer.the-variants.{Accepted}
-use Rattle.sheet.specs.Sheet.{sheetHourCount, shapeOf, sheetHours}
+use Rattle.sheet.specs.Sheet.{recordedReadings, sheetHourCount, shapeOf, sheetHours}
 use Rattle.sheet.specs.declared.SheetHour.{SheetHour}
 use Rattle.writer.specs.Recorded.{ReportHour, recordedHour, recordedHours, reportHours}
 use Rattle.writer.specs.Refusals.{refusalOf}
@@ -50,7 +50,7 @@ module _ (year quarter : ℕ) (name : List ℕ) (hs : List ReportHour) (r : Repo
 
 -- of a sheet: the recorded readings lie behind the rounded figures
 abbrev recordedSets : List SheetHour → List Unrounded
-recordedSets hs = map (λ h. asRecorded (h .readings)) hs
+recordedSets hs = map (λ h. asRecorded (recordedReadings h)) hs
 
 recorded-sets-behind : (hs : List SheetHour) → SetsBehind (recordedHours (reportHours hs)) (recordedSets hs)
 recorded-sets-behind [] = tt

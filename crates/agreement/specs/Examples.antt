@@ -1,5 +1,6 @@
 -- The paper's worked hour and empty quarter: the bytes that the writer gives are those that the check accepts. So are those of recorders
--- that multiply before they round: 250.04 ppm and 20,000,000.4 scfh are 830.1 lb/hr, and the ends of both spans 829.8 and 830.2.
+-- that multiply before they round: 250.04 ppm and 20,000,000.4 scfh are 830.1 lb/hr; the low ends of both spans are 829.8; 250.0499 ppm and
+-- 20,000,249.9 scfh, where heat input still is 1,333.3 mmBtu/hr, are 830.2.
 use mathlib.Core.Path.{_≡_, refl}
 use mathlib.Core.List.{List, [], _∷_}
 use Prim.Native.Nat.{ℕ}
@@ -32,8 +33,8 @@ roundedReport so2 flow =
     (roundedHours (record { hour = 0; time = 50; fc = 18_000; readings = record { so2 = so2; nox = whole 200; co2 = whole 12; flow = flow } } ∷ []))
 
 pub unrounded-same : (roundedReport (fraction 25_004 100 (lit< tt)) (fraction 200_000_004 10 (lit< tt)) ≡ between)
-    × (roundedReport (fraction 24_995 100 (lit< tt)) (fraction 199_999_995 10 (lit< tt)) ≡ lowest)
-    × (roundedReport (fraction 2_500_499 10_000 (lit< tt)) (fraction 2_000_000_049 100 (lit< tt)) ≡ highest)
+    × (roundedReport (fraction 24_995 100 (lit< tt)) (whole 19_999_500) ≡ lowest)
+    × (roundedReport (fraction 2_500_499 10_000 (lit< tt)) (fraction 200_002_499 10 (lit< tt)) ≡ highest)
 unfolding workedHour put over totalOf digitsOf digitOrBlank leading wholeWritten fixedWritten written leapYear daysInMonth daysBefore monthOfDay
     dateOfHour stampNumber stampOf totalsOf meanOf quarterOf quarterTotals headed valued facilityRecord totalsRecord hourRecord writtenRecords lined
     report

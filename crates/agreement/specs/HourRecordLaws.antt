@@ -89,7 +89,7 @@ module _ (year quarter : ℕ) (name : List ℕ) (g : Heading year quarter name) 
   facility-right : facilityFault facility ≡ 0
   unfolding facilityFault
   facility-right =
-      let q : Within quarterDigit quarter = record { least = g .isQuarter .least; most = g .isQuarter .most } in
+      let q : Within quarterDigit quarter = record { least = g .isQuarter .least; most = g .isQuarter .most; whole = omega arith } in
       rw (
         framed-shape Facility name facility facility-framed (facility-printable name (g .printable) year quarter),
         facility-framed .stack,

@@ -14,6 +14,7 @@ use Rattle.layout.specs.declared.RecordType.{RecordType}
 use Rattle.layout.specs.declared.RecordType.the-variants.{So2Concentration, NoxConcentration, Co2Concentration, VolumetricFlow, Operation}
 use Rattle.layout.specs.declared.RecordType.the-variants.{QuarterTotals, So2Mass, NoxRate, Co2Mass}
 use Rattle.layout.specs.declared.Run.the-variants.{Hourly}
+use Rattle.layout.specs.LayoutLaws.{thousands-back}
 use Rattle.layout.specs.RunLaws.{hourly-dated}
 use Rattle.totals.specs.TotalLaws.{quarter-hours}
 use Rattle.lines.specs.LineFaults.{typeIs, fieldIn}
@@ -103,6 +104,7 @@ module _ (year quarter : ℕ) (name : List ℕ) (g : Heading year quarter name) 
           hour-value NoxConcentration refl k 0 h h (omega arith) a,
           hour-value Co2Concentration refl k 0 h h (omega arith) a,
           hour-value VolumetricFlow refl k 0 h h (omega arith) a,
+          thousands-back (getD hs k noHour .recorded .readings .flow),
           hour-value NoxRate refl k 0 h h (omega arith) a,
           hour-value So2Mass refl k 0 h h (omega arith) a,
           hour-value NoxRate refl k 1 h h (omega arith) a,

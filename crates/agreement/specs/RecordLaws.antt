@@ -19,10 +19,11 @@ use Rattle.columns.specs.declared.Field.the-variants.{Number}
 use Rattle.exact.specs.Logic.{both}
 use Rattle.layout.specs.Layout.{codeOf, lengthOf, typeStart, typeWidth, typeDigits, stackStart, stackWidth, dateColumn, dateWidth, valuesOf, noValue}
 use Rattle.layout.specs.Layout.{Within}
-use Rattle.layout.specs.LayoutLaws.{each, length-least, true-within}
+use Rattle.layout.specs.LayoutLaws.{each, length-least}
+use Rattle.lines.specs.FaultLaws.{field-right}
 use Rattle.layout.specs.declared.Value.{Value}
 use Rattle.layout.specs.declared.RecordType.{RecordType}
-use Rattle.lines.specs.LineFaults.{typeIs, shapeFault, stackOf, stackFault, commonFault, fieldFault, fieldIn, valuesFault}
+use Rattle.lines.specs.LineFaults.{typeIs, shapeFault, stackOf, stackFault, commonFault, fieldIn, valuesFault}
 use Rattle.records.specs.Records.{headed, valued}
 
 -- a line with a type's length and digits and a stack name
@@ -163,11 +164,11 @@ valued-field from long (v ∷ vs) (x ∷ xs) line d (suc i) o l a h =
 -- fields that hold numbers in their ranges have no fault
 fields-right : (vs : List Value) (xs line : List ℕ) (d : Value) → ValuesWithin vs xs →
     ((i : ℕ) → i < length vs → fieldIn (getD vs i d) line ≡ Number (getD xs i 0)) → valuesFault vs line ≡ 0
-unfolding valuesFault fieldFault
+unfolding valuesFault
 fields-right [] xs line d a f = refl
 fields-right (v ∷ vs) [] line d a f = absurd a
 fields-right (v ∷ vs) (x ∷ xs) line d a f =
-    rw (f 0 (omega arith), true-within v x (a .0)) (fields-right vs xs line d (a .1) (λ i h. f (suc i) (omega arith)))
+    rw (f 0 (omega arith), field-right v x (a .0)) (fields-right vs xs line d (a .1) (λ i h. f (suc i) (omega arith)))
 
 module _ (t : RecordType) (xs line : List ℕ) (long : length line ≡ lengthOf t) (a : ValuesWithin (valuesOf t) xs) where
   pub value-back : (i : ℕ) → i < length (valuesOf t) → fieldIn (getD (valuesOf t) i noValue) (valued (valuesOf t) xs line) ≡ Number (getD xs i 0)

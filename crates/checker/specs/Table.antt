@@ -14,13 +14,13 @@ use Rattle.checker.specs.Checked.{Stated, statedTotals, acceptance, refu
 
 pub data InTable (file : List ℕ) : List ℕ → Type 0 where
   accepted : (r : Quarter) → InTable file (acceptance r)
-  -- 1 to 10: the file or a line
+  -- 1 to 10 and 43: the file or a line
   ofLines : (number line : ℕ) → Refuses file number line → InTable file (refusal number line)
   -- 11 to 14: a figure, on a line of its type
   ofFigure : (q : Quantity) (line : ℕ) → HasRecord file (typeFor q) line → InTable file (refusal (numberFor q) line)
   -- 21 to 24: a total, on line 301
   ofTotal : (t : Stated) (line : ℕ) → List·Memᴰ t statedTotals → HasRecord file QuarterTotals line → InTable file (refusal (t .number) line)
 
--- the numbers of the table
+-- the ranges in which the table's numbers lie
 abbrev pub ofCheck : ℕ → Bool
 ofCheck number = ofLineChecks number || (leb 11 number && leb number 14) || (leb 21 number && leb number 24)

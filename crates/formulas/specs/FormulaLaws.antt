@@ -9,10 +9,11 @@ use native.Mathlib.Omega.{arith}
 use lib.Dec.{lit<}
 use Rattle.exact.specs.Fraction.{Positive, plain, whole}
 use Rattle.exact.specs.FractionLaws.{quotient}
-use Rattle.exact.specs.Rounding.{Span, In, span, lowEnd}
+use Rattle.exact.specs.Rounding.{Span, In, recorded, span, lowEnd}
 use Rattle.exact.specs.RoundingLaws.{records-recorded, records-rounded}
 use Rattle.exact.specs.ProductLaw.{product-law}
 use Rattle.exact.specs.QuotientLaw.{recorded-divisors, quotient-law}
+use Rattle.layout.specs.Layout.{Within, flowScfh, thousandsOf}
 use Rattle.formulas.specs.Hour.{tenth, flowUnit, unitOf, figureOf, ReadingsWithin, Unrounded, asRecorded}
 use Rattle.formulas.specs.Formulas.{Measured, Equation, equationOf, Pair, pairOf, equationValue, RoundsTo, LiesBehind, spanOf, equationMeets, passesTest}
 use Rattle.formulas.specs.Formulas.{exactValue, recordedPair, roundedAt, roundedValue, figuresBy, roundedFigures, readingsFrom, figureFrom, hourFrom}
@@ -88,6 +89,10 @@ test-exact q h w =
       λ p. (p .0, record { reads = p .1; gives = p .2 }),
       λ p. (p .0, p .1 .reads, p .1 .gives),
     )
+
+-- the recorded flow, read as exact, is the number of scfh in its columns
+pub flow-exact : (scfh : ℕ) → Within flowScfh scfh → recorded flowUnit (thousandsOf scfh) ≡ whole scfh
+flow-exact scfh w = let e : thousandsOf scfh * flowUnit .num ≡ scfh = omega arith in ap whole e
 
 -- the recorded readings of a set are those of the equation, and round to themselves
 recorded-pair : (q : Quantity) (r : Readings) → pairOf q (asRecorded r) ≡ recordedPair (equationOf q r)

@@ -26,8 +26,8 @@ pub record Measured : Type 0 where
 abbrev tenths : ℕ → Measured
 tenths n = record { unit = tenth; count = n }
 
-abbrev scfh : ℕ → Measured
-scfh n = record { unit = flowUnit; count = n }
+abbrev thousands : ℕ → Measured
+thousands n = record { unit = flowUnit; count = n }
 
 -- factor × left × right, or factor × left / right: the left reading is a concentration, the right one the flow or the diluent
 pub record Equation : Type 0 where
@@ -47,13 +47,13 @@ equationOf Heat r = record {
   form = Product;
   factor = whole 1 ÷ (whole 100 ⊗ carbonFactor r);
   left = tenths (r .co2);
-  right = scfh (r .flow);
+  right = thousands (r .flow);
 }
 equationOf So2 r = record {
   form = Product;
   factor = fraction 166 1_000_000_000 (lit< tt);
   left = tenths (r .so2);
-  right = scfh (r .flow);
+  right = thousands (r .flow);
 }
 equationOf Nox r = record {
   form = Quotient;
@@ -65,7 +65,7 @@ equationOf Co2 r = record {
   form = Product;
   factor = fraction 57 100_000_000 (lit< tt);
   left = tenths (r .co2);
-  right = scfh (r .flow);
+  right = thousands (r .flow);
 }
 
 -- two unrounded readings, for the two of an equation

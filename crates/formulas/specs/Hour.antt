@@ -5,7 +5,7 @@ use lib.Dec.{lit<}
 use Rattle.exact.specs.Logic.{All}
 use Rattle.exact.specs.Fraction.{Fraction, Positive}
 use Rattle.exact.specs.Rounding.{recorded}
-use Rattle.layout.specs.Layout.{Within, so2Ppm, noxPpm, co2Percent, flowScfh, fFactor, timeHours, heatRate, so2Rate, noxRate, co2Rate}
+use Rattle.layout.specs.Layout.{Within, so2Ppm, noxPpm, co2Percent, flowScfh, scfhOf, fFactor, timeHours, heatRate, so2Rate, noxRate, co2Rate}
 use Rattle.formulas.specs.declared.hour.Readings.{Readings}
 use Rattle.formulas.specs.declared.hour.Figures.{Figures}
 use Rattle.formulas.specs.declared.hour.Hour.{Hour}
@@ -20,9 +20,9 @@ tenth = record { num = 1; den = 10; above = lit< tt; pos = lit< tt }
 abbrev pub thousandth : Positive
 thousandth = record { num = 1; den = 1000; above = lit< tt; pos = lit< tt }
 
--- 1 scfh
+-- 1,000 scfh
 abbrev pub flowUnit : Positive
-flowUnit = record { num = 1; den = 1; above = lit< tt; pos = lit< tt }
+flowUnit = record { num = 1000; den = 1; above = lit< tt; pos = lit< tt }
 
 -- the unit of a quantity's figure, and the figure
 abbrev pub unitOf : Quantity → Positive
@@ -37,12 +37,12 @@ figureOf So2 f = f .so2
 figureOf Nox f = f .nox
 figureOf Co2 f = f .co2
 
--- every number lies in the range of its columns
+-- every number, as it stands in its columns, lies in their range
 pub record ReadingsWithin (r : Readings) : Type 0 where
   pub so2 : Within so2Ppm (r .so2)
   pub nox : Within noxPpm (r .nox)
   pub co2 : Within co2Percent (r .co2)
-  pub flow : Within flowScfh (r .flow)
+  pub flow : Within flowScfh (scfhOf (r .flow))
   pub fc : Within fFactor (r .fc)
 
 pub record FiguresWithin (f : Figures) : Type 0 where

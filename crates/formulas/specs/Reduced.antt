@@ -51,11 +51,12 @@ abbrev pub formulaRounded : Form → Formula → ℕ
 formulaRounded Product f = nearest (f .num * (f .left * f .right)) (f .den)
 formulaRounded Quotient f = nearest (f .left * f .num) (f .den * f .right)
 
+-- the right reading's half units stay below 20,000,000
 pub record ProductRoom (f : Formula) : Type 0 where
   pub num : f .num ≤ 1000
   pub den : (1 ≤ f .den) × (f .den ≤ 1_000_000_000)
   pub left : f .left ≤ 99_999
-  pub right : f .right ≤ 500_000_000
+  pub right : f .right ≤ 9_999_999
 
 pub record QuotientRoom (f : Formula) : Type 0 where
   pub num : f .num ≤ 40_000_000

@@ -1,6 +1,6 @@
 // One operating hour as it is recorded. Each number is a count of units.
 
-// Tenths of ppm (SO2, NOx) and of percent (CO2), whole scfh (flow), tenths of scf/mmBtu (fc, the F-factor Fc).
+// Tenths of ppm (SO2, NOx) and of percent (CO2), thousands of scfh (flow), tenths of scf/mmBtu (fc, the F-factor Fc).
 pub struct Readings {
     pub so2: u64,
     pub nox: u64,

@@ -34,15 +34,15 @@ fn formula_of(q: Quantity, r: Readings) -> Formula
     match q {
         Quantity::Heat => Formula {
             form: Form::Product,
-            num: 1,
-            den: 10 * r.fc,
+            num: 100,
+            den: r.fc,
             left: r.co2,
             right: r.flow,
         },
         Quantity::So2 => Formula {
             form: Form::Product,
             num: 166,
-            den: 1000000000,
+            den: 1000000,
             left: r.so2,
             right: r.flow,
         },
@@ -56,7 +56,7 @@ fn formula_of(q: Quantity, r: Readings) -> Formula
         Quantity::Co2 => Formula {
             form: Form::Product,
             num: 57,
-            den: 100000000,
+            den: 100000,
             left: r.co2,
             right: r.flow,
         },

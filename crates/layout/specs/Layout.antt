@@ -1,5 +1,6 @@
 -- The records of a report: one row a type, and their order. Everything else is derived from the two. Columns count from 1.
-use Prim.Native.Nat.{ℕ, suc, _+_, _*_, _-_, _≤_, _^_}
+use Prim.Native.Nat.{ℕ, suc, _+_, _*_, _-_, _/_, _%_, _≤_, _^_}
+use mathlib.Core.Path.{_≡_}
 use mathlib.Core.Bool.{Bool, cond, _&&_}
 use mathlib.Core.List.{List, [], _∷_}
 use lib.Dec.{eqb, leb}
@@ -17,9 +18,13 @@ use Rattle.layout.specs.declared.Run.the-variants.{Once, Hourly}
 use Rattle.layout.specs.declared.Row.{Row}
 use Rattle.layout.specs.declared.Front.{Front}
 
--- a number of a range
+-- a number of a range that is a multiple of a step, and any number of a range
+abbrev pub steppedValue : (start width decimals least most step : ℕ) → Value
+steppedValue start width decimals least most step =
+    record { start = start; width = width; decimals = decimals; least = least; most = most; step = step }
+
 abbrev pub rangedValue : (start width decimals least most : ℕ) → Value
-rangedValue start width decimals least most = record { start = start; width = width; decimals = decimals; least = least; most = most }
+rangedValue start width decimals least most = steppedValue start width decimals least most 1
 
 -- every line has its type and its stack name
 
@@ -64,7 +69,15 @@ abbrev pub co2Percent : Value
 co2Percent = rangedValue 29 6 1 1 1000
 
 abbrev pub flowScfh : Value
-flowScfh = rangedValue 39 10 0 0 500000000
+flowScfh = steppedValue 39 10 0 0 500_000_000 1000
+
+-- flow is recorded in whole thousands: how many there are in a number of scfh, and the scfh of so many
+
+abbrev pub thousandsOf : ℕ → ℕ
+thousandsOf scfh = scfh / flowScfh .step
+
+abbrev pub scfhOf : ℕ → ℕ
+scfhOf thousands = flowScfh .step * thousands
 
 abbrev pub timeHours : Value
 timeHours = rangedValue 18 4 2 1 100
@@ -225,10 +238,21 @@ reportLength s = totalOf (bytesOf s) order
 pub record Held (s : Shape) : Type 0 where
   pub hours : s .hours ≤ mostHours
 
--- a number of a value's range, and the test of it
+-- a number of a value's range
+abbrev pub Between : Value → ℕ → Type 0
+Between v k = (v .least ≤ k) × (k ≤ v .most)
+
+-- a number of a value's range and a multiple of its step, and the tests of both
 pub record Within (v : Value) (k : ℕ) : Type 0 where
   pub least : v .least ≤ k
   pub most : k ≤ v .most
+  pub whole : k % v .step ≡ 0
+
+abbrev pub inRange : Value → ℕ → Bool
+inRange v k = leb (v .least) k && leb k (v .most)
+
+abbrev pub wholeSteps : Value → ℕ → Bool
+wholeSteps v k = eqb (k % v .step) 0
 
 unfoldable pub within : Value → ℕ → Bool
-within v k = leb (v .least) k && leb k (v .most)
+within v k = inRange v k && wholeSteps v k

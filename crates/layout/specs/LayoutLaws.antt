@@ -7,12 +7,12 @@ use native.Mathlib.Omega.{arith}
 use native.Mathlib.Nat.{le-of-suc-le-suc, not-suc-le-zero}
 use lib.Dec.{leb, lit≤}
 use lib.ListN.{length, getD}
-use borrow.Author.Tests.{leb-true, le-leb}
+use borrow.Author.Tests.{leb-true, le-leb, eqb-true, eq-eqb}
 use Rattle.calendar.specs.Calendar.{mostHours}
 use Rattle.exact.specs.Logic.{both}
 use Rattle.exact.specs.Sums.{totalOf}
 use Rattle.layout.specs.Layout.{lengthOf, dateColumn, dateWidth, valueCount, mostValues, linesOf, recordOf}
-use Rattle.layout.specs.Layout.{countOf, order, rankOf, typeAt, reportLength, Held, Within, within}
+use Rattle.layout.specs.Layout.{countOf, order, rankOf, typeAt, reportLength, Held, Between, Within, inRange, wholeSteps, within, flowScfh, thousandsOf, scfhOf}
 use Rattle.layout.specs.declared.RecordType.{RecordType}
 use Rattle.layout.specs.declared.RecordType.the-variants.{Facility, So2Concentration, NoxConcentration, Co2Concentration, VolumetricFlow}
 use Rattle.layout.specs.declared.RecordType.the-variants.{Operation, QuarterTotals, So2Mass, NoxRate, Co2Mass}
@@ -78,14 +78,38 @@ count-most s h t = go (recordOf t .run)
     go Once = omega arith
     go Hourly = omega arith
 
--- the test of a range
+-- the tests of a range and a step
+
+pub in-range-true : (v : Value) (k : ℕ) → inRange v k ≡ true → Between v k
+in-range-true v k e = let b = both (leb (v .least) k) (leb k (v .most)) e in (leb-true _ _ (b .0), leb-true _ _ (b .1))
+
+pub tests-within : (v : Value) (k : ℕ) → inRange v k ≡ true → wholeSteps v k ≡ true → Within v k
+tests-within v k r s = let b = in-range-true v k r in record { least = b .0; most = b .1; whole = eqb-true _ _ s }
+
 pub within-true : (v : Value) (k : ℕ) → within v k ≡ true → Within v k
 unfolding within
-within-true v k e = let b = both (leb (v .least) k) (leb k (v .most)) e in record { least = leb-true _ _ (b .0); most = leb-true _ _ (b .1) }
+within-true v k e = let b = both (inRange v k) (wholeSteps v k) e in tests-within v k (b .0) (b .1)
+
+pub true-in-range : (v : Value) (k : ℕ) → Between v k → inRange v k ≡ true
+true-in-range v k b = rw (le-leb _ _ (b .0), le-leb _ _ (b .1))
 
 pub true-within : (v : Value) (k : ℕ) → Within v k → within v k ≡ true
 unfolding within
-true-within v k w = rw (le-leb _ _ (w .least), le-leb _ _ (w .most))
+true-within v k w = rw (true-in-range v k (w .least, w .most), eq-eqb _ _ (w .whole))
+
+-- scfh to thousands and back: 20,000,000 scfh are 20,000 thousands
+
+pub thousands-named : (thousandsOf 20_000_000 ≡ 20_000) × (scfhOf 20_000 ≡ 20_000_000)
+thousands-named = (refl, refl)
+
+pub scfh-back : (scfh : ℕ) → Within flowScfh scfh → scfhOf (thousandsOf scfh) ≡ scfh
+scfh-back scfh w = omega arith
+
+pub flow-within : (scfh : ℕ) → Within flowScfh scfh → Within flowScfh (scfhOf (thousandsOf scfh))
+flow-within scfh w = rw (scfh-back scfh w) w
+
+pub thousands-back : (thousands : ℕ) → thousandsOf (scfhOf thousands) ≡ thousands
+thousands-back thousands = omega arith
 
 pub report-length : (s : Shape) → reportLength s ≡ 64 + 318 * s .hours
 unfolding reportLength totalOf

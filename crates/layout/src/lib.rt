@@ -4,7 +4,8 @@ ghost use Prim.Native.Nat.{_+_, _*_, _≤_, _<_};
 ghost use lib.ListN.{length};
 ghost use Rattle.calendar.specs.Calendar.{mostHours};
 ghost use Rattle.layout.specs.Lead.{leadBy, leadOf};
-ghost use Rattle.layout.specs.Layout.{within, typeDigits, lengthOf, dateColumn, rowOf, countOf, order, typeAt};
+ghost use Rattle.layout.specs.Layout.{inRange, wholeSteps, within, Within, flowScfh, thousandsOf, scfhOf};
+ghost use Rattle.layout.specs.Layout.{typeDigits, lengthOf, dateColumn, rowOf, countOf, order, typeAt};
 ghost use Rattle.layout.specs.Layout.{frontOf, lineOf, offsetOf, reportLength, Held, valueCount, valueAt};
 
 // Every line has its type and its stack name.
@@ -56,13 +57,15 @@ pub enum RecordType {
     Co2Mass,
 }
 
-// A value's first column (from 1), width and decimals (0: a whole number), and the least and the most it may be, in units of its last decimal.
+// A value's first column (from 1), width and decimals (0: a whole number); in units of its last decimal, the least and the most it may be
+// and the step of which it is a multiple.
 pub struct Value {
     pub start: usize,
     pub width: usize,
     pub decimals: usize,
     pub least: u64,
     pub most: u64,
+    pub step: u64,
 }
 
 // Line 100 has the year and the quarter, digits only.
@@ -72,6 +75,7 @@ pub const YEAR: Value = Value {
     decimals: 0,
     least: 1995,
     most: 2094,
+    step: 1,
 };
 
 pub const QUARTER: Value = Value {
@@ -80,13 +84,33 @@ pub const QUARTER: Value = Value {
     decimals: 0,
     least: 1,
     most: 4,
+    step: 1,
 };
 
-// Whether a number lies in a value's range.
-pub fn within(v: Value, k: u64) -> bool
-    ensures { λ r. ⌜ r ≡ within v k ⌝ }
+// Whether a number lies between a value's least and its most.
+pub fn in_range(v: Value, k: u64) -> bool
+    ensures { λ r. ⌜ r ≡ inRange v k ⌝ }
 {
     (v.least <= k) & (k <= v.most)
+}
+
+// Whether a number is a multiple of a value's step. Every number is one of 1: nothing is divided there.
+pub fn whole_steps(v: Value, k: u64) -> bool
+    requires { ⌜ 1 ≤ v .step ⌝ }
+    ensures { λ r. ⌜ r ≡ wholeSteps v k ⌝ }
+{
+    if v.step == 1 {
+        return true;
+    }
+    k % v.step == 0
+}
+
+// Whether a number lies in a value's range and is a multiple of its step.
+pub fn within(v: Value, k: u64) -> bool
+    requires { ⌜ 1 ≤ v .step ⌝ }
+    ensures { λ r. ⌜ r ≡ within v k ⌝ }
+{
+    in_range(v, k) & whole_steps(v, k)
 }
 
 // How many lines a report has.
@@ -314,6 +338,7 @@ const NO_VALUE: Value = Value {
     decimals: 0,
     least: 0,
     most: 0,
+    step: 1,
 };
 
 pub const SO2_PPM: Value = Value {
@@ -322,6 +347,7 @@ pub const SO2_PPM: Value = Value {
     decimals: 1,
     least: 0,
     most: 99999,
+    step: 1,
 };
 
 pub const NOX_PPM: Value = Value {
@@ -330,6 +356,7 @@ pub const NOX_PPM: Value = Value {
     decimals: 1,
     least: 0,
     most: 99999,
+    step: 1,
 };
 
 pub const CO2_PERCENT: Value = Value {
@@ -338,6 +365,7 @@ pub const CO2_PERCENT: Value = Value {
     decimals: 1,
     least: 1,
     most: 1000,
+    step: 1,
 };
 
 pub const FLOW_SCFH: Value = Value {
@@ -346,6 +374,7 @@ pub const FLOW_SCFH: Value = Value {
     decimals: 0,
     least: 0,
     most: 500000000,
+    step: 1000,
 };
 
 pub const TIME_HOURS: Value = Value {
@@ -354,6 +383,7 @@ pub const TIME_HOURS: Value = Value {
     decimals: 2,
     least: 1,
     most: 100,
+    step: 1,
 };
 
 pub const HEAT_RATE: Value = Value {
@@ -362,6 +392,7 @@ pub const HEAT_RATE: Value = Value {
     decimals: 1,
     least: 0,
     most: 999999,
+    step: 1,
 };
 
 const SO2_TONS: Value = Value {
@@ -370,6 +401,7 @@ const SO2_TONS: Value = Value {
     decimals: 1,
     least: 0,
     most: 9999999999,
+    step: 1,
 };
 
 const CO2_TONS: Value = Value {
@@ -378,6 +410,7 @@ const CO2_TONS: Value = Value {
     decimals: 1,
     least: 0,
     most: 9999999999,
+    step: 1,
 };
 
 const HEAT_TOTAL: Value = Value {
@@ -386,6 +419,7 @@ const HEAT_TOTAL: Value = Value {
     decimals: 1,
     least: 0,
     most: 9999999999,
+    step: 1,
 };
 
 const NOX_MEAN: Value = Value {
@@ -394,6 +428,7 @@ const NOX_MEAN: Value = Value {
     decimals: 3,
     least: 0,
     most: 99999,
+    step: 1,
 };
 
 pub const SO2_RATE: Value = Value {
@@ -402,6 +437,7 @@ pub const SO2_RATE: Value = Value {
     decimals: 1,
     least: 0,
     most: 999999,
+    step: 1,
 };
 
 pub const F_FACTOR: Value = Value {
@@ -410,6 +446,7 @@ pub const F_FACTOR: Value = Value {
     decimals: 1,
     least: 5000,
     most: 30000,
+    step: 1,
 };
 
 pub const NOX_RATE: Value = Value {
@@ -418,6 +455,7 @@ pub const NOX_RATE: Value = Value {
     decimals: 3,
     least: 0,
     most: 99999,
+    step: 1,
 };
 
 pub const CO2_RATE: Value = Value {
@@ -426,7 +464,23 @@ pub const CO2_RATE: Value = Value {
     decimals: 1,
     least: 0,
     most: 999999,
+    step: 1,
 };
+
+// Flow is recorded in whole thousands: how many there are in a number of scfh, and the scfh of so many.
+
+pub fn thousands_of(scfh: u64) -> u64
+    ensures { λ r. ⌜ r ≡ thousandsOf scfh ⌝ }
+{
+    scfh / FLOW_SCFH.step
+}
+
+pub fn scfh_of(thousands: u64) -> u64
+    requires { ⌜ Within flowScfh (scfhOf thousands) ⌝ }
+    ensures { λ r. ⌜ r ≡ scfhOf thousands ⌝ }
+{
+    FLOW_SCFH.step * thousands
+}
 
 // The totals of record 301.
 fn total_at(i: usize) -> Value

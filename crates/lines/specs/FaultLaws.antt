@@ -8,7 +8,7 @@ use native.Mathlib.Nat.{le-of-suc-le-suc, not-suc-le-zero}
 use lib.Dec.{eqb, leb}
 use lib.ListN.{length, take, drop, getD}
 use lib.Seq.{drop-drop, take-take}
-use borrow.Author.Tests.{eqb-true, leb-true}
+use borrow.Author.Tests.{eqb-true, leb-true, eq-eqb}
 use Rattle.columns.specs.Bytes.{isBlank, all}
 use Rattle.columns.specs.BytesLaws.{same-eq}
 use Rattle.columns.specs.Columns.{columns}
@@ -18,8 +18,8 @@ use Rattle.columns.specs.declared.Field.the-variants.{Blank, Malformed, Number}
 use Rattle.calendar.specs.Calendar.{mostHours, IsQuarter}
 use Rattle.calendar.specs.declared.QuarterHour.{QuarterHour}
 use Rattle.calendar.specs.declared.QuarterHour.the-variants.{At, Outside}
-use Rattle.layout.specs.Layout.{codeOf, lengthOf, dateColumn, typeWidth, typeDigits, yearDigits, quarterDigit, valuesOf, Within, within}
-use Rattle.layout.specs.LayoutLaws.{within-true}
+use Rattle.layout.specs.Layout.{codeOf, lengthOf, dateColumn, typeWidth, typeDigits, yearDigits, quarterDigit, valuesOf, Within, inRange, wholeSteps, within}
+use Rattle.layout.specs.LayoutLaws.{tests-within, within-true, true-in-range}
 use Rattle.layout.specs.TypeLaws.{digits-tell}
 use Rattle.layout.specs.declared.RecordType.{RecordType}
 use Rattle.layout.specs.declared.RecordType.the-variants.{Facility, So2Concentration}
@@ -58,13 +58,18 @@ pub type-same : (t u : RecordType) (line : List ℕ) → typeIs t line ≡ true 
 unfolding typeIs
 type-same t u line e = rw (same-eq (take typeWidth line) (typeDigits t) .0 e) (digits-tell t u)
 
--- the number in a field without fault lies in the value's range
+-- the number in a field without fault lies in the value's range and is a multiple of its step, and a number that is both is without fault
 pub field-within : (v : Value) (f : Field) → fieldFault v f ≡ 0 → Within v (numberOf f)
 unfolding fieldFault numberOf
 field-within v Blank e = absurd (omega arith)
 field-within v Malformed e = absurd (omega arith)
 field-within v (Number k) e =
-    within-true v k (unless-zero (within v k) 8 e)
+    let r = or-zero (unless (inRange v k) 9) _ e in
+    tests-within v k (unless-zero (inRange v k) 8 (r .0)) (unless-zero (wholeSteps v k) 42 (r .1))
+
+pub field-right : (v : Value) (k : ℕ) → Within v k → fieldFault v (Number k) ≡ 0
+unfolding fieldFault
+field-right v k w = rw (true-in-range v k (w .least, w .most), eq-eqb _ _ (w .whole))
 
 pub values-within : (vs : List Value) (line : List ℕ) → valuesFault vs line ≡ 0 → (i : ℕ) (d : Value) → i < length vs →
     Within (getD vs i d) (numberOf (fieldIn (getD vs i d) line))

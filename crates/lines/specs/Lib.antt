@@ -4,5 +4,6 @@ pub mod EndLaws
 pub mod LineFaults
 pub mod FaultLaws
 pub mod Beginning
+pub mod Examples
 pub mod Shows
 pub mod ShowsLaws

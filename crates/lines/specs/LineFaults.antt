@@ -12,7 +12,8 @@ use Rattle.columns.specs.declared.Field.{Field}
 use Rattle.columns.specs.declared.Field.the-variants.{Blank, Malformed, Number}
 use Rattle.calendar.specs.declared.QuarterHour.{QuarterHour}
 use Rattle.calendar.specs.declared.QuarterHour.the-variants.{At, Outside}
-use Rattle.layout.specs.Layout.{typeWidth, typeDigits, stackStart, stackWidth, dateWidth, yearDigits, quarterDigit, lengthOf, dateColumn, valuesOf, within}
+use Rattle.layout.specs.Layout.{typeWidth, typeDigits, stackStart, stackWidth, dateWidth, yearDigits, quarterDigit, lengthOf}
+use Rattle.layout.specs.Layout.{dateColumn, valuesOf, inRange, wholeSteps, within}
 use Rattle.stamp.specs.Stamp.{stampHour}
 use Rattle.layout.specs.declared.RecordType.{RecordType}
 use Rattle.layout.specs.declared.RecordType.the-variants.{Facility, So2Concentration}
@@ -53,12 +54,12 @@ stackFault facility line = unless (same (stackOf line) (stackOf facility)) 5
 unfoldable pub commonFault : List ℕ → RecordType → List ℕ → ℕ
 commonFault facility t line = shapeFault t line orElse stackFault facility line
 
--- 8 and 9: the values, left to right
+-- 8, 9 and 43: the values, left to right
 
 unfoldable pub fieldFault : Value → Field → ℕ
 fieldFault v Blank = 8
 fieldFault v Malformed = 8
-fieldFault v (Number k) = unless (within v k) 9
+fieldFault v (Number k) = unless (inRange v k) 9 orElse unless (wholeSteps v k) 43
 
 abbrev pub fieldIn : Value → List ℕ → Field
 fieldIn v line = fieldOf (v .decimals) (columns (v .start) (v .width) line)

@@ -1,6 +1,7 @@
 -- A line with a fault shows it. Shows.antt has the rows.
-use Prim.Native.Nat.{ℕ, zero, suc, _<_}
+use Prim.Native.Nat.{ℕ, zero, suc, _%_, _<_}
 use mathlib.Core.Path.{_≡_, refl, sym, _∙_}
+use mathlib.Core.Logic.{_⊎_, inl, inr}
 use mathlib.Core.List.{List, [], _∷_}
 use mathlib.Core.Bool.{Bool, true, false, not, false≢true}
 use native.Mathlib.Omega.{arith}
@@ -14,17 +15,19 @@ use Rattle.columns.specs.declared.Field.{Field}
 use Rattle.columns.specs.declared.Field.the-variants.{Blank, Malformed, Number}
 use Rattle.calendar.specs.declared.QuarterHour.{QuarterHour}
 use Rattle.calendar.specs.declared.QuarterHour.the-variants.{At, Outside}
-use Rattle.layout.specs.Layout.{lengthOf, dateColumn, dateWidth, yearDigits, quarterDigit, valuesOf, valueCount, valueAt, noValue, Within, within}
-use Rattle.layout.specs.LayoutLaws.{true-within}
+use Rattle.layout.specs.Layout.{lengthOf, dateColumn, dateWidth, yearDigits, quarterDigit, valuesOf, valueCount}
+use Rattle.layout.specs.Layout.{valueAt, noValue, Between, inRange, wholeSteps, within}
+use Rattle.layout.specs.LayoutLaws.{in-range-true, true-in-range, true-within}
+use Rattle.layout.specs.ValueLaws.{step-of}
 use Rattle.layout.specs.declared.RecordType.{RecordType}
-use Rattle.layout.specs.declared.RecordType.the-variants.{Facility, So2Concentration}
+use Rattle.layout.specs.declared.RecordType.the-variants.{Facility, So2Concentration, VolumetricFlow}
 use Rattle.layout.specs.declared.Value.{Value}
 use Rattle.lines.specs.LineFaults.{_orElse_, unless, typeIs, shapeFault, stackOf, stackFault, commonFault, fieldFault, fieldIn, valuesFault, digitsIn}
 use Rattle.lines.specs.LineFaults.{periodOn, facilityFault, facilityLine, risingFault, hourOn, hourFault, hourNumber, hourLine, Due, dateFault, dueFault}
 use Rattle.lines.specs.FaultLaws.{shape-type, common-shape}
 use Rattle.lines.specs.Shows.{Shows, ofLineChecks}
 use Rattle.lines.specs.Shows.Shows.{otherType, otherLength, unprintable, blankStack, otherStack, yearOutside, quarterOutside, hourOutside, hourNotLater}
-use Rattle.lines.specs.Shows.Shows.{otherDate, notInFormat, valueOutside}
+use Rattle.lines.specs.Shows.Shows.{otherDate, notInFormat, valueOutside, notThousands}
 use Rattle.lines.specs.declared.FacilityLine.the-variants.{Of, Faulty as FaultyFacility}
 use Rattle.lines.specs.declared.HourLine.the-variants.{At as OfHour, Faulty as FaultyHour}
 
@@ -58,8 +61,12 @@ module _ (P : ℕ → Type 0) where
 fails : {A : Type 0} (t : Bool) → (A → t ≡ true) → t ≡ false → A → ⊥
 fails t holds e a = false≢true (sym e ∙ holds a)
 
-outside : (v : Value) (k : ℕ) → within v k ≡ false → Within v k → ⊥
-outside v k = fails (within v k) (true-within v k)
+outside : (v : Value) (k : ℕ) → inRange v k ≡ false → Between v k → ⊥
+outside v k = fails (inRange v k) (true-in-range v k)
+
+-- where every number is a multiple of the step
+not-within : (v : Value) (k : ℕ) → k % v .step ≡ 0 → within v k ≡ false → Between v k → ⊥
+not-within v k s e b = fails (within v k) (true-within v k) e (record { least = b .0; most = b .1; whole = s })
 
 module _ (facility line : List ℕ) where
   abbrev Here : ℕ → Type 0
@@ -78,13 +85,23 @@ module _ (facility line : List ℕ) where
       or-shown Here (shapeFault t line) _ (shape-shown t)
       (λ z. unless-shown Here (same (stackOf line) (stackOf facility)) 4 (λ e. otherStack (fails _ (same-eq _ _ .1) e)))
 
+  -- every number is a multiple of 1: what is no multiple of its step is a flow
+  flow-shown : (t : RecordType) → typeIs t line ≡ true → (i k : ℕ) → i < valueCount t → fieldIn (valueAt t i) line ≡ Number k →
+      Between (valueAt t i) k → (k % valueAt t i .step ≡ 0 → ⊥) → Here 43
+  flow-shown t type i k h e b n = go (step-of t i h)
+    where
+      go : (valueAt t i .step ≡ 1) ⊎ ((t ≡ VolumetricFlow) × (i ≡ 0)) → Here 43
+      go (inl one) = absurd (n (rw one (omega arith)))
+      go (inr own) = notThousands k (rw (own .0) at type) (rw (own .0, own .1) at e) (rw (own .0, own .1) at b) (rw (own .0, own .1) at n)
+
   module _ (t : RecordType) (type : typeIs t line ≡ true) where
     field-shown : (i : ℕ) → i < valueCount t → (f : Field) → fieldIn (valueAt t i) line ≡ f → Shown Here (fieldFault (valueAt t i) f)
     unfolding fieldFault
     field-shown i h Blank e = notInFormat t i type h (λ k g. let z : _≡_ {A = ℕ} 0 1 = cc in omega arith)
     field-shown i h Malformed e = notInFormat t i type h (λ k g. let z : _≡_ {A = ℕ} 0 1 = cc in omega arith)
     field-shown i h (Number k) e =
-        unless-shown Here (within (valueAt t i) k) 8 (λ g. valueOutside t i k type h e (outside (valueAt t i) k g))
+        test-shown Here (inRange (valueAt t i) k) 8 _ (λ g. valueOutside t i k type h e (outside (valueAt t i) k g)) (λ y.
+        unless-shown Here (wholeSteps (valueAt t i) k) 42 (λ g. flow-shown t type i k h e (in-range-true (valueAt t i) k y) (eqb-false _ _ g)))
 
     fields-shown : Shown Here (valuesFault (valuesOf t) line)
     fields-shown = values-shown Here line (valuesOf t) (λ i h. field-shown i h (fieldIn (valueAt t i) line) refl)
@@ -121,8 +138,9 @@ facility-shown line =
     or-shown (Shows line line) (shapeFault Facility line) _ (shape-shown line line Facility) (λ z.
     let type = shape-type Facility line z in
     test-shown (Shows line line) (not (all isBlank (stackOf line))) 4 _ (λ e. blankStack type (not-false _ e)) (λ y.
-    test-shown (Shows line line) (within yearDigits (digitsIn yearDigits line)) 5 _ (λ e. yearOutside type (outside yearDigits _ e)) (λ x.
-    unless-shown (Shows line line) (within quarterDigit (digitsIn quarterDigit line)) 5 (λ e. quarterOutside type (outside quarterDigit _ e)))))
+    test-shown (Shows line line) (within yearDigits (digitsIn yearDigits line)) 5 _ (λ e. yearOutside type (not-within yearDigits _ (omega arith) e)) (λ x.
+    unless-shown (Shows line line) (within quarterDigit (digitsIn quarterDigit line)) 5 (λ e.
+    quarterOutside type (not-within quarterDigit _ (omega arith) e)))))
 
 pub due-shows : (facility : List ℕ) (d : Due) (line : List ℕ) (c : ℕ) → dueFault facility d line ≡ suc c → Shows facility line (suc c)
 due-shows facility d line c e = rw e at (due-shown facility line d)
@@ -162,3 +180,4 @@ shows-number (hourNotLater hour type e) = refl
 shows-number (otherDate t type h) = refl
 shows-number (notInFormat t i type h e) = refl
 shows-number (valueOutside t i k type h e w) = refl
+shows-number (notThousands k type e b n) = refl

@@ -49,16 +49,20 @@ pub fn digits_in(line: &[u8], v: Value) -> u64
     columns::number_of(columns::read_digits(line, v.start, v.width))
 }
 
-// 8 and 9.
+// 8, 9 and 43.
 fn field_fault(v: Value, field: Field) -> u64
+    requires { ⌜ 1 ≤ v .step ⌝ }
     ensures { λ r. ⌜ r ≡ fieldFault v field ⌝ }
 {
     match field {
         Field::Number(k) => {
-            if layout::within(v, k) {
-                return 0;
+            if !layout::in_range(v, k) {
+                return 9;
             }
-            9
+            if !layout::whole_steps(v, k) {
+                return 43;
+            }
+            0
         }
         Field::Malformed => 8,
         Field::Blank => 8,

@@ -8,15 +8,18 @@ use native.Mathlib.Decide.{decLt}
 use lib.Dec.{eqb}
 use lib.ListN.{length, take, drop, drop-of-length-le}
 use borrow.Author.Tests.{eqb-true}
+use Rattle.exact.specs.Fraction.{whole}
 use Rattle.calendar.specs.Calendar.{IsQuarter}
 use Rattle.layout.specs.Layout.{lengthOf, valueCount, valuesOf, valueAt, noValue, yearDigits, quarterDigit, order, countOf, offsetOf}
 use Rattle.layout.specs.Layout.{reportLength, Within}
+use Rattle.layout.specs.LayoutLaws.{flow-within}
 use Rattle.layout.specs.declared.RecordType.{RecordType}
 use Rattle.layout.specs.declared.RecordType.the-variants.{Facility, So2Concentration, NoxConcentration, Co2Concentration, VolumetricFlow, Operation}
 use Rattle.layout.specs.declared.RecordType.the-variants.{So2Mass, NoxRate, Co2Mass}
 use Rattle.layout.specs.declared.Shape.{Shape}
 use Rattle.stamp.specs.StampLaws.{is-quarter}
-use Rattle.formulas.specs.Hour.{HourWithin}
+use Rattle.formulas.specs.Hour.{HourWithin, asRecorded}
+use Rattle.formulas.specs.FormulaLaws.{flow-exact}
 use Rattle.lines.specs.Lines.{firstLine, lines, last}
 use Rattle.lines.specs.LineLaws.{lines-at, line-at}
 use Rattle.lines.specs.LineFaults.{valuesFault, facilityFault, facilityLine}
@@ -51,7 +54,7 @@ clean-hour file r c k h =
         so2 = w So2Concentration 0 h (omega arith);
         nox = w NoxConcentration 0 h (omega arith);
         co2 = w Co2Concentration 0 h (omega arith);
-        flow = w VolumetricFlow 0 h (omega arith);
+        flow = flow-within _ (w VolumetricFlow 0 h (omega arith));
         fc = w NoxRate 0 h (omega arith);
       };
       figures = record {
@@ -61,6 +64,12 @@ clean-hour file r c k h =
         co2 = w Co2Mass 0 h (omega arith);
       };
     }
+
+-- an hour's flow, read as exact, is the number on its 220 line
+pub clean-flow : (file : List ℕ) (r : Report) → CleanFile file r → (k : ℕ) → k < r .shape .hours →
+    asRecorded (hourAt file k .readings) .flow ≡ whole (valueOn file VolumetricFlow k 0)
+unfolding hourAt
+clean-flow file r c k h = flow-exact (valueOn file VolumetricFlow k 0) (c .values VolumetricFlow k 0 h (omega arith))
 
 module _ (file : List ℕ) (ends : last file ≡ 10) (facility : List ℕ) where
   facility-first : facilityFault (firstLine file) ≡ 0 → 0 < length file → LineRight file ends facility Facility 0

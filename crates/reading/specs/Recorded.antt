@@ -6,7 +6,7 @@ use mathlib.Core.Bool.{Bool, true, false}
 use lib.ListN.{length, getD}
 use Rattle.exact.specs.Logic.{ranked}
 use Rattle.columns.specs.Number.{numberOf}
-use Rattle.layout.specs.Layout.{valueAt}
+use Rattle.layout.specs.Layout.{thousandsOf, valueAt}
 use Rattle.layout.specs.declared.RecordType.{RecordType}
 use Rattle.layout.specs.declared.RecordType.the-variants.{So2Concentration, NoxConcentration, Co2Concentration, VolumetricFlow, Operation}
 use Rattle.layout.specs.declared.RecordType.the-variants.{QuarterTotals, So2Mass, NoxRate, Co2Mass}
@@ -51,7 +51,7 @@ hourAt file k = record {
     so2 = valueOn file So2Concentration k 0;
     nox = valueOn file NoxConcentration k 0;
     co2 = valueOn file Co2Concentration k 0;
-    flow = valueOn file VolumetricFlow k 0;
+    flow = thousandsOf (valueOn file VolumetricFlow k 0);
     fc = valueOn file NoxRate k 0;
   };
   figures = record {

@@ -32,7 +32,7 @@ pub fn hour(file: &[u8], s: Shape, k: usize) -> Hour
             so2: value_in(file, s, RecordType::So2Concentration, k, 0),
             nox: value_in(file, s, RecordType::NoxConcentration, k, 0),
             co2: value_in(file, s, RecordType::Co2Concentration, k, 0),
-            flow: value_in(file, s, RecordType::VolumetricFlow, k, 0),
+            flow: layout::thousands_of(value_in(file, s, RecordType::VolumetricFlow, k, 0)),
             fc: value_in(file, s, RecordType::NoxRate, k, 0),
         },
         figures: Figures {

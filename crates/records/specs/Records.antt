@@ -4,7 +4,7 @@ use mathlib.Core.List.{List, [], _∷_, _++_}
 use lib.ListN.{replicate}
 use Rattle.columns.specs.Columns.{put}
 use Rattle.columns.specs.Written.{digitsOf, written}
-use Rattle.layout.specs.Layout.{typeStart, typeDigits, stackStart, yearDigits, quarterDigit, lengthOf, dateColumn, valuesOf}
+use Rattle.layout.specs.Layout.{typeStart, typeDigits, stackStart, yearDigits, quarterDigit, lengthOf, dateColumn, scfhOf, valuesOf}
 use Rattle.layout.specs.declared.Value.{Value}
 use Rattle.layout.specs.declared.RecordType.{RecordType}
 use Rattle.layout.specs.declared.RecordType.the-variants.{Facility, So2Concentration, NoxConcentration, Co2Concentration, VolumetricFlow, Operation}
@@ -37,7 +37,7 @@ hourValues Facility h = []
 hourValues So2Concentration h = h .readings .so2 ∷ []
 hourValues NoxConcentration h = h .readings .nox ∷ []
 hourValues Co2Concentration h = h .readings .co2 ∷ []
-hourValues VolumetricFlow h = h .readings .flow ∷ []
+hourValues VolumetricFlow h = scfhOf (h .readings .flow) ∷ []
 hourValues Operation h = h .time ∷ h .figures .heat ∷ []
 hourValues QuarterTotals h = []
 hourValues So2Mass h = h .figures .so2 ∷ []

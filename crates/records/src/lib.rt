@@ -10,6 +10,7 @@ ghost use lib.ListN.{length, take};
 ghost use Rattle.columns.specs.Columns.{put};
 ghost use Rattle.columns.specs.Written.{digitsOf};
 ghost use Rattle.layout.specs.Layout.{recordOf, lengthOf, stackWidth, dateWidth, valueCount, valuesOf, offsetOf};
+ghost use Rattle.formulas.specs.Hour.{ReadingsWithin};
 ghost use Rattle.records.specs.Records.{headed, valued, ended, facilityRecord, hourValues, datedRecord, totalsRecord};
 ghost use Rattle.records.specs.Room.{HourFits};
 
@@ -49,7 +50,7 @@ fn facility_record(line: &mut [u8], name: &[u8], year: u64, quarter: u64)
 
 // The values of an hour in its record of a type, and zeros behind them.
 fn hour_values(t: RecordType, h: Hour) -> [u64; layout::MOST_VALUES]
-    requires { ⌜ recordOf t .run ≡ Run.Hourly ⌝ }
+    requires { ⌜ (recordOf t .run ≡ Run.Hourly) × ReadingsWithin (h .readings) ⌝ }
     ensures { λ r. ⌜ take (valueCount t) r ≡ hourValues t h ⌝ }
 {
     match t {
@@ -57,7 +58,7 @@ fn hour_values(t: RecordType, h: Hour) -> [u64; layout::MOST_VALUES]
         RecordType::So2Concentration => [h.readings.so2, 0, 0, 0],
         RecordType::NoxConcentration => [h.readings.nox, 0, 0, 0],
         RecordType::Co2Concentration => [h.readings.co2, 0, 0, 0],
-        RecordType::VolumetricFlow => [h.readings.flow, 0, 0, 0],
+        RecordType::VolumetricFlow => [layout::scfh_of(h.readings.flow), 0, 0, 0],
         RecordType::Operation => [h.time, h.figures.heat, 0, 0],
         RecordType::QuarterTotals => [0, 0, 0, 0],
         RecordType::So2Mass => [h.figures.so2, 0, 0, 0],
@@ -68,7 +69,7 @@ fn hour_values(t: RecordType, h: Hour) -> [u64; layout::MOST_VALUES]
 
 // The record of an hour, whose date is a number of eight digits.
 fn hour_record(line: &mut [u8], name: &[u8], t: RecordType, date: u64, h: Hour)
-    requires { ⌜ (length (now line) ≡ lengthOf t) × (length (now name) ≡ stackWidth) × (recordOf t .run ≡ Run.Hourly) ⌝ }
+    requires { ⌜ (length (now line) ≡ lengthOf t) × (length (now name) ≡ stackWidth) × (recordOf t .run ≡ Run.Hourly) × ReadingsWithin (h .readings) ⌝ }
     ensures { λ _. ⌜ now (line .exit) ≡ datedRecord (now (name .entry)) t (digitsOf dateWidth date) h ⌝ }
 {
     write_heading(line, name, t);
@@ -107,7 +108,7 @@ pub fn write_hour(
     date: u64,
     h: Hour,
 )
-    requires { ⌜ HourFits s k (now name) (now buffer) × (recordOf t .run ≡ Run.Hourly) ⌝ }
+    requires { ⌜ HourFits s k (now name) (now buffer) × (recordOf t .run ≡ Run.Hourly) × ReadingsWithin (h .readings) ⌝ }
     ensures { λ _. ⌜ now (buffer .exit)
         ≡ put (offsetOf s t k + 1) (ended (datedRecord (now (name .entry)) t (digitsOf dateWidth date) h)) (now (buffer .entry)) ⌝ }
 {

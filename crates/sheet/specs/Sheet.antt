@@ -3,8 +3,9 @@ use Prim.Native.Nat.{ℕ, _+_, _*_, _/_, _%_, _^_}
 use mathlib.Core.List.{List}
 use lib.ListN.{length, getD}
 use Rattle.exact.specs.Logic.{ranked}
-use Rattle.layout.specs.Layout.{shape}
+use Rattle.layout.specs.Layout.{thousandsOf, shape}
 use Rattle.layout.specs.declared.Shape.{Shape}
+use Rattle.formulas.specs.declared.hour.Readings.{Readings}
 use Rattle.sheet.specs.declared.Word.{Word}
 use Rattle.sheet.specs.declared.SheetHour.{SheetHour}
 
@@ -41,14 +42,16 @@ unfoldable pub sheetHour : List ℕ → ℕ → SheetHour
 sheetHour sheet k = record {
   hour = sheetValue sheet k 0 / timeSize;
   time = sheetValue sheet k 0 % timeSize;
-  readings = record {
-    so2 = sheetValue sheet k 1;
-    nox = sheetValue sheet k 2;
-    co2 = sheetValue sheet k 3;
-    flow = sheetValue sheet k 4;
-    fc = sheetValue sheet k 5;
-  };
+  so2 = sheetValue sheet k 1;
+  nox = sheetValue sheet k 2;
+  co2 = sheetValue sheet k 3;
+  scfh = sheetValue sheet k 4;
+  fc = sheetValue sheet k 5;
 }
+
+-- its readings, as they are recorded
+abbrev pub recordedReadings : SheetHour → Readings
+recordedReadings h = record { so2 = h .so2; nox = h .nox; co2 = h .co2; flow = thousandsOf (h .scfh); fc = h .fc }
 
 abbrev pub sheetHourCount : List ℕ → ℕ
 sheetHourCount sheet = length sheet / hourWords

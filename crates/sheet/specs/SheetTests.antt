@@ -46,8 +46,8 @@ sheetHolds year quarter name sheet =
     headingHolds year quarter name && eqb (length sheet % hourWords) 0 && kindsHold sheet 0 (sheetHourCount sheet)
     && hoursRise (hoursInQuarter year quarter) 0 (sheetHours sheet)
 
--- 32: time and readings lie in the ranges of their columns
+-- 32: time and readings lie in the ranges of their columns, and the flow is a whole thousand
 unfoldable pub readingsHold : SheetHour → Bool
 readingsHold h =
-    within timeHours (h .time) && within so2Ppm (h .readings .so2) && within noxPpm (h .readings .nox)
-    && within co2Percent (h .readings .co2) && within flowScfh (h .readings .flow) && within fFactor (h .readings .fc)
+    within timeHours (h .time) && within so2Ppm (h .so2) && within noxPpm (h .nox)
+    && within co2Percent (h .co2) && within flowScfh (h .scfh) && within fFactor (h .fc)

@@ -10,12 +10,12 @@ use Rattle.exact.specs.Logic.{ranked}
 use Rattle.columns.specs.Bytes.{all, isBlank, isPrintable}
 use Rattle.calendar.specs.Calendar.{IsQuarter, hoursInQuarter}
 use Rattle.calendar.specs.CalendarLaws.{hours-in-quarter}
-use Rattle.layout.specs.Layout.{Within, Held, yearDigits, timeHours}
+use Rattle.layout.specs.Layout.{Within, Held, yearDigits, timeHours, flowScfh, scfhOf}
 use Rattle.exact.specs.Logic.{both}
-use Rattle.layout.specs.LayoutLaws.{within-true}
+use Rattle.layout.specs.LayoutLaws.{within-true, scfh-back, flow-within}
 use Rattle.formulas.specs.Hour.{ReadingsWithin}
 use Rattle.stamp.specs.StampLaws.{is-quarter}
-use Rattle.sheet.specs.Sheet.{hourWords, sheetHour, sheetHourCount, shapeOf, sheetHours}
+use Rattle.sheet.specs.Sheet.{hourWords, sheetHour, recordedReadings, sheetHourCount, shapeOf, sheetHours}
 use Rattle.sheet.specs.SheetTests.{every, headingHolds, kindsHold, hourHolds, hoursRise, sheetHolds, readingsHold}
 use Rattle.sheet.specs.SheetLaws.{sheet-hours-count}
 use Rattle.sheet.specs.declared.SheetHour.{SheetHour}
@@ -114,20 +114,27 @@ shape-held year quarter name sheet s =
     record { hours = omega (arith, rise-count _ _ _ (s .rises), sheet-hours-count sheet, hours-in-quarter year quarter (s .heading .isQuarter)) }
 
 -- an hour that 32 does not refuse
-pub readings-true : (h : SheetHour) → readingsHold h ≡ true → Within timeHours (h .time) × ReadingsWithin (h .readings)
+pub readings-true : (h : SheetHour) → readingsHold h ≡ true →
+    Within timeHours (h .time) × Within flowScfh (h .scfh) × ReadingsWithin (recordedReadings h)
 unfolding readingsHold
 readings-true h e =
     let a = both _ _ e in
     let b = both _ _ (a .0) in
     let c = both _ _ (b .0) in
     let d = both _ _ (c .0) in
-    let f = both _ _ (d .0) in (
+    let f = both _ _ (d .0) in
+    let flow : Within flowScfh (h .scfh) = within-true _ _ (b .1) in (
       within-true _ _ (f .0),
+      flow,
       record {
         so2 = within-true _ _ (f .1);
         nox = within-true _ _ (d .1);
         co2 = within-true _ _ (c .1);
-        flow = within-true _ _ (b .1);
+        flow = flow-within (h .scfh) flow;
         fc = within-true _ _ (a .1);
       },
     )
+
+-- its flow, as it is recorded, is the number of scfh that its word has
+pub flow-word : (h : SheetHour) → readingsHold h ≡ true → scfhOf (recordedReadings h .flow) ≡ h .scfh
+flow-word h e = scfh-back (h .scfh) (readings-true h e .1)

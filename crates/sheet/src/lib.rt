@@ -5,7 +5,7 @@ use layout::Shape;
 ghost use mathlib.Core.Path.{_≡_};
 ghost use Prim.Native.Nat.{_+_, _*_, _≤_, _<_};
 ghost use lib.ListN.{length, getD};
-ghost use Rattle.sheet.specs.Sheet.{wordValue, apart, hourWords, sheetHour, shapeOf};
+ghost use Rattle.sheet.specs.Sheet.{wordValue, apart, hourWords, sheetHour, recordedReadings, shapeOf};
 ghost use Rattle.sheet.specs.SheetTests.{headingHolds, hourKinds, hourHolds, readingsHold};
 
 // An hour's words: hour and time, SO2, NOx, CO2, flow, Fc.
@@ -23,11 +23,16 @@ pub struct Word {
     pub value: u64,
 }
 
-// One operating hour as the sheet has it: the hour of the quarter (0 first), the time in hundredths of an hour, the readings.
+// One operating hour as the sheet has it: the hour of the quarter (0 first), the time in hundredths of an hour, SO2, NOx and CO2 in tenths,
+// flow in scfh, Fc in tenths.
 pub struct SheetHour {
     pub hour: u64,
     pub time: u64,
-    pub readings: Readings,
+    pub so2: u64,
+    pub nox: u64,
+    pub co2: u64,
+    pub scfh: u64,
+    pub fc: u64,
 }
 
 pub fn word_apart(word: u32) -> Word
@@ -57,13 +62,24 @@ pub fn hour_at(sheet: &[u32], k: usize) -> SheetHour
     SheetHour {
         hour: hour / TIME_SIZE,
         time: hour % TIME_SIZE,
-        readings: Readings {
-            so2: word_value(sheet, first + 1),
-            nox: word_value(sheet, first + 2),
-            co2: word_value(sheet, first + 3),
-            flow: word_value(sheet, first + 4),
-            fc: word_value(sheet, first + 5),
-        },
+        so2: word_value(sheet, first + 1),
+        nox: word_value(sheet, first + 2),
+        co2: word_value(sheet, first + 3),
+        scfh: word_value(sheet, first + 4),
+        fc: word_value(sheet, first + 5),
+    }
+}
+
+// The readings of an hour, as they are recorded.
+pub fn recorded_readings(h: SheetHour) -> Readings
+    ensures { λ r. ⌜ r ≡ recordedReadings h ⌝ }
+{
+    Readings {
+        so2: h.so2,
+        nox: h.nox,
+        co2: h.co2,
+        flow: layout::thousands_of(h.scfh),
+        fc: h.fc,
     }
 }
 
@@ -110,14 +126,14 @@ pub fn hour_holds(below: u64, from: u64, h: SheetHour) -> bool
     (from <= h.hour) & (h.hour < below)
 }
 
-// 32: time and readings lie in their ranges.
+// 32: time and readings lie in their ranges, and the flow is a whole thousand.
 pub fn readings_hold(h: SheetHour) -> bool
     ensures { λ r. ⌜ r ≡ readingsHold h ⌝ }
 {
     layout::within(layout::TIME_HOURS, h.time)
-        & layout::within(layout::SO2_PPM, h.readings.so2)
-        & layout::within(layout::NOX_PPM, h.readings.nox)
-        & layout::within(layout::CO2_PERCENT, h.readings.co2)
-        & layout::within(layout::FLOW_SCFH, h.readings.flow)
-        & layout::within(layout::F_FACTOR, h.readings.fc)
+        & layout::within(layout::SO2_PPM, h.so2)
+        & layout::within(layout::NOX_PPM, h.nox)
+        & layout::within(layout::CO2_PERCENT, h.co2)
+        & layout::within(layout::FLOW_SCFH, h.scfh)
+        & layout::within(layout::F_FACTOR, h.fc)
 }

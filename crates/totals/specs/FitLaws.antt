@@ -60,8 +60,8 @@ module _ (hs : List Hour) (w : HoursWithin hs) (b : length hs ≤ mostHours) whe
   totals-fit =
       let m = totals-most in
       record {
-        so2 = record { least = omega arith; most = omega (arith, m .so2) };
-        co2 = record { least = omega arith; most = omega (arith, m .co2) };
-        heat = record { least = omega arith; most = omega (arith, m .heat) };
-        nox = record { least = omega arith; most = nox-most };
+        so2 = record { least = omega arith; most = omega (arith, m .so2); whole = omega arith };
+        co2 = record { least = omega arith; most = omega (arith, m .co2); whole = omega arith };
+        heat = record { least = omega arith; most = omega (arith, m .heat); whole = omega arith };
+        nox = record { least = omega arith; most = nox-most; whole = omega arith };
       }

@@ -1,6 +1,6 @@
--- The paper's worked hour and its empty quarter: what the writer gives for them, byte by byte.
+-- The paper's worked hour and its empty quarter: what the writer gives for them, byte by byte; and flows that it refuses or takes.
 use mathlib.Core.Path.{_≡_, refl}
-use mathlib.Core.List.{List, [], _∷_}
+use mathlib.Core.List.{List, [], _∷_, map}
 use Prim.Native.Nat.{ℕ, _+_, _*_, _^_}
 use lib.ListN.{replicate}
 use Rattle.exact.specs.Logic.{ranked}
@@ -19,22 +19,26 @@ use Rattle.sheet.specs.SheetTests.{every, headingHolds, kindsRise, kindsHold, h
 use Rattle.writer.specs.Refusals.{figuresHold, refusalOf}
 use Rattle.records.specs.Records.{headed, valued, facilityRecord, totalsRecord}
 use Rattle.writer.specs.Written.{hourRecord, writtenRecords, lined, report, answered, buffered}
-use Rattle.writer.specs.declared.Written.the-variants.{Length}
+use Rattle.writer.specs.declared.Written.{Written}
+use Rattle.writer.specs.declared.Written.the-variants.{Length, Refused}
 
 -- STACK1
 abbrev pub stack : List ℕ
 stack = 83 ∷ 84 ∷ 65 ∷ 67 ∷ 75 ∷ 49 ∷ []
 
--- hour 0 for 0.50 hours, SO2 250.0, NOx 200.0, CO2 12.0, flow 20,000,000, Fc 1,800.0
-abbrev pub workedSheet : List ℕ
-workedSheet =
+-- hour 0 for 0.50 hours, SO2 250.0, NOx 200.0, CO2 12.0, a flow, Fc 1,800.0
+abbrev sheetWith : (scfh : ℕ) → List ℕ
+sheetWith scfh =
     (0 * 2 ^ 29 + 50)
     ∷ (1 * 2 ^ 29 + 2500)
     ∷ (2 * 2 ^ 29 + 2000)
     ∷ (3 * 2 ^ 29 + 120)
-    ∷ (4 * 2 ^ 29 + 20_000_000)
+    ∷ (4 * 2 ^ 29 + scfh)
     ∷ (5 * 2 ^ 29 + 18_000)
     ∷ []
+
+abbrev pub workedSheet : List ℕ
+workedSheet = sheetWith 20_000_000
 
 -- 2005, quarter 3
 unfoldable pub worked : List ℕ
@@ -67,6 +71,21 @@ unfolding worked all put digitsOf digitOrBlank leading wholeWritten fixedWritten
     sheetHours reportLength within every headingHolds kindsRise kindsHold hourHolds hoursRise sheetHolds readingsHold figuresHold
     refusalOf headed valued facilityRecord hourRecord totalsRecord writtenRecords lined report answered buffered
 worked-written = (refl, refl)
+
+-- flows that are no whole thousand, or past the limit, or both, and flows that are taken
+
+abbrev answersTo : List ℕ → List Written
+answersTo flows = map (λ scfh. answered 2005 3 stack (sheetWith scfh) 382) flows
+
+pub flow-refused : answersTo (20_000_500 ∷ 20_000_001 ∷ 19_999_999 ∷ 1 ∷ 500_001_000 ∷ 500_000_001 ∷ []) ≡ replicate 6 (Refused 32)
+unfolding all leapYear daysInMonth daysInQuarter hoursInQuarter over roundedValue roundedFigures sheetHour ranked sheetHours reportLength within every
+    headingHolds kindsRise kindsHold hourHolds hoursRise sheetHolds readingsHold figuresHold refusalOf answered
+flow-refused = refl
+
+pub flow-taken : answersTo (0 ∷ 1000 ∷ 19_999_000 ∷ 500_000_000 ∷ []) ≡ replicate 4 (Length 382)
+unfolding all leapYear daysInMonth daysInQuarter hoursInQuarter over totalOf roundedValue roundedFigures sheetHour ranked sheetHours reportLength within every
+    headingHolds kindsRise kindsHold hourHolds hoursRise sheetHolds readingsHold figuresHold refusalOf answered
+flow-taken = refl
 
 pub empty-written : (answered 2005 3 stack [] 64 ≡ Length 64) × (buffered 2005 3 stack [] (replicate 64 0) ≡ empty)
 unfolding empty all put digitsOf digitOrBlank leading wholeWritten fixedWritten written leapYear daysInMonth daysInQuarter hoursInQuarter daysBefore

@@ -4,6 +4,7 @@ use Prim.Native.Nat.{ℕ}
 use mathlib.Core.List.{List, map}
 use Rattle.formulas.specs.Formulas.{roundedFigures}
 use Rattle.formulas.specs.declared.hour.Hour.{Hour}
+use Rattle.sheet.specs.Sheet.{recordedReadings}
 use Rattle.sheet.specs.declared.SheetHour.{SheetHour}
 
 pub record ReportHour : Type 0 where
@@ -14,7 +15,7 @@ abbrev pub recordedHours : List ReportHour → List Hour
 recordedHours hs = map (λ (h : ReportHour). h .recorded) hs
 
 abbrev pub recordedHour : SheetHour → Hour
-recordedHour h = record { time = h .time; readings = h .readings; figures = roundedFigures (h .readings) }
+recordedHour h = record { time = h .time; readings = recordedReadings h; figures = roundedFigures (recordedReadings h) }
 
 abbrev pub reportHour : SheetHour → ReportHour
 reportHour h = record { hour = h .hour; recorded = recordedHour h }

@@ -34,6 +34,6 @@ module _ (year quarter : ℕ) (name sheet : List ℕ) where
             let w = readings-true (sheetHour sheet k) (every-hour readingsHold sheet k r h) in
             record {
               exists = rise-hour _ sheet k (s .rises) h;
-              within = record { time = w .0; readings = w .1; figures = figures-true _ (every-hour figuresFit sheet k f h) };
+              within = record { time = w .0; readings = w .2; figures = figures-true _ (every-hour figuresFit sheet k f h) };
             };
       }

@@ -6,7 +6,7 @@ use lib.Dec.{leb}
 use Rattle.layout.specs.Layout.{within, heatRate, so2Rate, noxRate, co2Rate, reportLength}
 use Rattle.formulas.specs.Formulas.{roundedFigures}
 use Rattle.formulas.specs.declared.hour.Figures.{Figures}
-use Rattle.sheet.specs.Sheet.{shapeOf, sheetHours}
+use Rattle.sheet.specs.Sheet.{recordedReadings, shapeOf, sheetHours}
 use Rattle.sheet.specs.SheetTests.{every, sheetHolds, readingsHold}
 use Rattle.sheet.specs.declared.SheetHour.{SheetHour}
 
@@ -16,7 +16,7 @@ unfoldable pub figuresHold : Figures → Bool
 figuresHold f = within heatRate (f .heat) && within so2Rate (f .so2) && within noxRate (f .nox) && within co2Rate (f .co2)
 
 abbrev pub figuresFit : SheetHour → Bool
-figuresFit h = figuresHold (roundedFigures (h .readings))
+figuresFit h = figuresHold (roundedFigures (recordedReadings h))
 
 -- the first refusal of a sheet and a buffer of so many bytes; 0 is none
 unfoldable pub refusalOf : ℕ → ℕ → List ℕ → List ℕ → ℕ → ℕ

@@ -23,7 +23,7 @@ fn hour_refusal(h: SheetHour) -> u64
     if !sheet::readings_hold(h) {
         return 32;
     }
-    if !figures_hold(formulas::rounded_figures(h.readings)) {
+    if !figures_hold(formulas::rounded_figures(sheet::recorded_readings(h))) {
         return 33;
     }
     0

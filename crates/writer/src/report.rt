@@ -11,7 +11,7 @@ ghost use Rattle.columns.specs.Written.{digitsOf};
 ghost use Rattle.formulas.specs.Hour.{ReadingsWithin};
 ghost use Rattle.layout.specs.Layout.{dateWidth, order, hourly};
 ghost use Rattle.records.specs.Room.{HourFits};
-ghost use Rattle.sheet.specs.Sheet.{shapeOf, sheetHours};
+ghost use Rattle.sheet.specs.Sheet.{recordedReadings, shapeOf, sheetHours};
 ghost use Rattle.totals.specs.Totals.{quarterTotals};
 ghost use Rattle.writer.specs.Recorded.{recordedHour, recordedHours, reportHours};
 ghost use Rattle.writer.specs.Writable.{Fits};
@@ -20,10 +20,10 @@ ghost use Rattle.writer.specs.HourLines.{hourLines, hoursLines};
 
 // An hour as it is recorded: its figures are the formulas of its readings, rounded.
 fn recorded_hour(h: SheetHour) -> Hour
-    requires { ⌜ ReadingsWithin (h .readings) ⌝ }
+    requires { ⌜ ReadingsWithin (recordedReadings h) ⌝ }
     ensures { λ r. ⌜ r ≡ recordedHour h ⌝ }
 {
-    let readings = h.readings;
+    let readings = sheet::recorded_readings(h);
     Hour {
         time: h.time,
         readings,
@@ -33,7 +33,7 @@ fn recorded_hour(h: SheetHour) -> Hour
 
 // The lines of hour k.
 fn write_hour_lines(buffer: &mut [u8], name: &[u8], s: Shape, k: usize, date: u64, h: Hour)
-    requires { ⌜ HourFits s k (now name) (now buffer) ⌝ }
+    requires { ⌜ HourFits s k (now name) (now buffer) × ReadingsWithin (h .readings) ⌝ }
     ensures { λ _. ⌜ now (buffer .exit) ≡ hourLines (now (name .entry)) s k (digitsOf dateWidth date) h (hourly order) (now (buffer .entry)) ⌝ }
 {
     records::write_hour(buffer, name, s, RecordType::So2Concentration, k, date, h);

@@ -115,7 +115,7 @@ pub enum Kind {
     Nox = 2,
     /// Tenths of percent.
     Co2 = 3,
-    /// Volumetric flow, scfh.
+    /// Volumetric flow, scfh, whole thousands.
     Flow = 4,
     /// Carbon-based F-factor, tenths of scf/mmBtu.
     Fc = 5,
@@ -166,11 +166,12 @@ pub const fn meaning(number: u64) -> &'static str {
         23 => "line 301's heat input differs from the total formed",
         24 => "line 301's mean NOx emission rate differs from the one formed",
         31 => "year, quarter, name, word count or a kind of the sheet is wrong, or its hours do not rise or are not in the quarter",
-        32 => "a value of the sheet is outside its range",
+        32 => "a value of the sheet is outside its range, or a flow is not a whole thousand",
         33 => "a figure of the sheet's hours is too large for its columns",
         34 => "the buffer is shorter than the report",
         41 => "the quarter is not 1 to 4 or not next in the previous record's year, a quarter 0 is not all zeros, or hours pass 2,208 a quarter",
         42 => "a sum of the year passes 9,999,999,999 tenths",
+        43 => "the flow is not a whole thousand of scfh",
         _ => "no refusal has this number",
     }
 }

@@ -1,5 +1,5 @@
-//! The wrapper's refusals are those of README.md and of include/edr.h; words too large for a sheet are refused; quarters join in order
-//! and within their limits; README.md shows what the year to date's example prints.
+//! The wrapper's refusals are those of README.md and of include/edr.h; words too large for a sheet are refused, and flows that are not
+//! whole thousands; quarters join in order and within their limits; README.md shows what the year to date's example prints.
 
 use std::collections::BTreeMap;
 
@@ -38,7 +38,7 @@ fn written(sheet: [u32; edr::HOUR_WORDS]) -> Written {
 }
 
 #[test]
-fn words_too_large_are_refused() {
+fn words_out_of_range_are_refused() {
     let sheet = [
         hour_word(0, 50),
         word(Kind::So2, 2_500),
@@ -48,7 +48,7 @@ fn words_too_large_are_refused() {
         word(Kind::Fc, 18_000),
     ];
     assert_eq!(written(sheet), Written::Length(382));
-    let too_large = [
+    let out_of_range = [
         (0, hour_word(0, 128 + 50), 32),
         (0, hour_word(1 << 25, 50), 31),
         (0, word(Kind::Hour, u32::MAX), 31),
@@ -56,12 +56,13 @@ fn words_too_large_are_refused() {
         (2, word(Kind::Nox, 1 << 30 | 2_000), 32),
         (3, word(Kind::Co2, 1 << 31 | 120), 32),
         (4, word(Kind::Flow, 600_000_000), 32),
+        (4, word(Kind::Flow, 20_000_500), 32),
         (5, word(Kind::Fc, 1 << 29 | 18_000), 32),
     ];
-    for (place, word, number) in too_large {
+    for (place, word, number) in out_of_range {
         let mut sheet = sheet;
         sheet[place] = word;
-        assert_eq!(written(sheet), Written::Refused(number), "{place}");
+        assert_eq!(written(sheet), Written::Refused(number), "{place}: {word:#x}");
     }
 }
 

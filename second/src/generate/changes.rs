@@ -3,6 +3,7 @@
 //!
 //! Every change takes a turn number, which runs through its variants.
 
+use super::flows::{uneven_flow, uneven_on};
 use super::page::Page;
 use crate::calendar::{eight_digits, is_leap, moment_of};
 use crate::layout::*;
@@ -12,7 +13,8 @@ use crate::random::Random;
 pub type Change = fn(&mut Random, usize, &mut Page);
 
 /// All changes of this kind.
-pub const CHANGES: [Change; 6] = [bad_format, bad_range, bad_date, unlike_date, unlike_name, odd_byte];
+pub const CHANGES: [Change; 7] =
+    [bad_format, bad_range, uneven_flow, bad_date, unlike_date, unlike_name, odd_byte];
 
 /// A line with values, drawn so that every record type has its turn.
 fn line_with_values(random: &mut Random, page: &Page) -> usize {
@@ -29,7 +31,7 @@ fn bad_text(random: &mut Random, turn: usize, width: usize, decimals: usize) -> 
     let digit = |random: &mut Random| char::from(b'0' + random.below(10) as u8);
     let whole = digit(random);
     let fraction: String = (0..decimals).map(|_| digit(random)).collect();
-    let sound = if decimals == 0 { format!("{whole}0") } else { format!("{whole}.{fraction}") };
+    let sound = if decimals == 0 { format!("{whole}000") } else { format!("{whole}.{fraction}") };
     let text = match turn % 16 {
         0 => String::new(),
         1 => format!("-{sound}"),
@@ -80,17 +82,21 @@ pub fn bad_range(random: &mut Random, turn: usize, page: &mut Page) {
     let old = page.get(index, value.columns).and_then(|text| read_number(&text, value.decimals));
     let number = match turn / 4 % 5 {
         0 if low > 0 => low - 1,
-        1 => high + 1,
-        2 => random.between(high + 1, largest(value)),
+        1 => high + value.unit,
+        2 => random.between(high + 1, value.largest()),
         // The right value again, were it cut to 32 or 16 bits.
         3 => match old.unwrap_or(low) {
-            old if old + (1 << 32) <= largest(value) => old + (1 << 32),
-            old => (old + (1 << 16)).min(largest(value)),
+            old if old + (1 << 32) <= value.largest() => old + (1 << 32),
+            old => (old + (1 << 16)).min(value.largest()),
         },
-        _ => random.pick(&[0, largest(value)]).max(if low == 0 { high + 1 } else { 0 }),
+        _ => random.pick(&[0, value.largest()]).max(if low == 0 { high + 1 } else { 0 }),
     };
-    let text = format!("{:>width$}", plain_number(number, value.decimals), width = value.columns.1);
-    page.set(index, value.columns, text.as_bytes());
+    page.set(index, value.columns, &text_of(value, number));
+}
+
+/// A number in the columns of a value, with blanks before it.
+pub fn text_of(value: &Value, number: u128) -> Vec<u8> {
+    format!("{:>width$}", plain_number(number, value.decimals), width = value.columns.1).into_bytes()
 }
 
 /// A year or quarter that cannot be.
@@ -224,9 +230,10 @@ pub fn odd_byte(random: &mut Random, turn: usize, page: &mut Page) {
     }
 }
 
-/// Faults on a given line, one for each of the numbers 9, 8, 7 or 6, 5, 4, 2
+/// Faults on a given line, one for each of the numbers 43, 9, 8, 7 or 6, 5, 4, 2
 /// and 3; the length comes last, as the others need whole lines.
-pub const ON_LINE: [Change; 7] = [range_on, format_on, date_on, name_on, byte_on, type_on, length_on];
+pub const ON_LINE: [Change; 8] =
+    [uneven_on, range_on, format_on, date_on, name_on, byte_on, type_on, length_on];
 
 fn format_on(random: &mut Random, index: usize, page: &mut Page) {
     let values = page.record(index).values;
@@ -239,9 +246,7 @@ fn format_on(random: &mut Random, index: usize, page: &mut Page) {
 fn range_on(_: &mut Random, index: usize, page: &mut Page) {
     for value in page.record(index).values {
         if value.range.is_some() {
-            let text =
-                format!("{:>width$}", plain_number(largest(value), value.decimals), width = value.columns.1);
-            page.set(index, value.columns, text.as_bytes());
+            page.set(index, value.columns, &text_of(value, value.largest()));
         }
     }
 }

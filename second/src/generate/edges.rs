@@ -32,14 +32,14 @@ fn edge_readings(random: &mut Random, figure: Figure) -> Readings {
             Readings { co2: 1, ..drawn },
             Readings { co2: 1_000, fc: 30_000, ..drawn },
             Readings { fc: 5_000, ..drawn },
-            Readings { flow: 500_000_000, fc: 30_000, co2: random.between(1, 500), so2: 5, nox: 1 },
+            Readings { flow: 500_000, fc: 30_000, co2: random.between(1, 500), so2: 5, nox: 1 },
         ],
         Figure::So2 => [
             Readings { so2: 0, ..drawn },
             Readings { so2: 0, flow: 0, ..drawn },
             Readings { flow: 0, ..drawn },
-            Readings { so2: 99_999, flow: random.between(0, 60_000_000), ..drawn },
-            Readings { flow: 500_000_000, so2: random.between(0, 12_000), ..drawn },
+            Readings { so2: 99_999, flow: random.between(0, 60_000), ..drawn },
+            Readings { flow: 500_000, so2: random.between(0, 12_000), ..drawn },
         ],
         Figure::Nox => [
             Readings { nox: 0, ..drawn },
@@ -52,7 +52,7 @@ fn edge_readings(random: &mut Random, figure: Figure) -> Readings {
             Readings { flow: 0, ..drawn },
             Readings { co2: 1, ..drawn },
             Readings { co2: 1_000, ..drawn },
-            Readings { flow: 500_000_000, ..drawn },
+            Readings { flow: 500_000, ..drawn },
             Readings { flow: 1, co2: random.between(1, 1_000), ..drawn },
         ],
     };
@@ -126,9 +126,9 @@ pub fn too_large(random: &mut Random, turn: usize) -> Report {
     let rank = random.below(count);
     let hour = &mut report.hours[rank];
     hour.readings = match turn % 3 {
-        0 => Readings { flow: 500_000_000, co2: 1_000, fc: 5_000, so2: 3, nox: 20 },
-        1 => Readings { flow: 500_000_000, so2: 99_999, co2: 20, fc: 30_000, nox: 20 },
-        _ => Readings { nox: 99_999, co2: 1, fc: 30_000, so2: 20, flow: 100_000 },
+        0 => Readings { flow: 500_000, co2: 1_000, fc: 5_000, so2: 3, nox: 20 },
+        1 => Readings { flow: 500_000, so2: 99_999, co2: 20, fc: 30_000, nox: 20 },
+        _ => Readings { nox: 99_999, co2: 1, fc: 30_000, so2: 20, flow: 100 },
     };
     for (number, figure) in FIGURES.iter().enumerate() {
         hour.figures[number] = figure.of_recorded(&hour.readings).min(column_limits()[number]);
@@ -156,6 +156,18 @@ pub fn two_impossible(random: &mut Random, turn: usize) -> Report {
     }
 }
 
+/// A report of a few hours in which one hour has these readings and this figure.
+fn report_with(random: &mut Random, readings: Readings, figure: Figure, wanted: u128) -> Report {
+    let count = 1 + random.below(3);
+    let mut report = report(random, count);
+    let rank = random.below(count);
+    let hour_of_quarter = report.hours[rank].hour_of_quarter;
+    report.hours[rank] = hour_with(random, hour_of_quarter, readings);
+    report.hours[rank].figures[place(figure)] = wanted;
+    report.add_up();
+    report
+}
+
 /// A report in which the edge of a figure is missed or met by as little as the
 /// numbers allow.
 pub fn at_tight_edge(random: &mut Random, turn: usize) -> Report {
@@ -168,14 +180,48 @@ pub fn at_tight_edge(random: &mut Random, turn: usize) -> Report {
             continue;
         }
         let Some(readings) = readings_around(random, &fixed, figure) else { continue };
-        let count = 1 + random.below(3);
-        let mut report = report(random, count);
-        let rank = random.below(count);
-        let hour_of_quarter = report.hours[rank].hour_of_quarter;
-        report.hours[rank] = hour_with(random, hour_of_quarter, readings);
-        report.hours[rank].figures[place(figure)] = wanted;
-        report.add_up();
-        return report;
+        return report_with(random, readings, figure, wanted);
     }
     report(random, 1)
+}
+
+/// A report in which the values of an hour's flow and CO2 end or start exactly
+/// where the span of a heat figure starts or ends: that figure, which fails, or
+/// its neighbour, which passes.
+pub fn at_exact_heat(random: &mut Random, turn: usize) -> Report {
+    let upper = turn % 2 == 0;
+    loop {
+        let (fixed, missed) = tight::exact_heat(random, upper);
+        let wanted = match (turn / 2 % 2, upper) {
+            (0, _) => missed,
+            (_, true) => missed - 1,
+            (_, false) => missed + 1,
+        };
+        let readings = readings_around(random, &fixed, Figure::Heat);
+        if let Some(readings) = readings.filter(|_| wanted <= column_limits()[place(Figure::Heat)]) {
+            return report_with(random, readings, Figure::Heat, wanted);
+        }
+    }
+}
+
+/// A report with an hour of recorded flow 0, which stands for nearly 500 scfh
+/// too: one past the largest figure, the largest, or one up to it.
+pub fn without_flow(random: &mut Random, turn: usize) -> Report {
+    let figure = [Figure::Heat, Figure::So2, Figure::Heat, Figure::So2, Figure::Co2][turn % 5];
+    let drawn = Readings { flow: 0, ..readings(random) };
+    let fixed = match figure {
+        Figure::Heat => {
+            Readings { co2: random.between(100, 1_000), fc: random.between(5_000, 15_000), ..drawn }
+        }
+        _ if random.once_in(3) => Readings { so2: 99_999, ..drawn },
+        _ => Readings { so2: random.between(5_000, 99_999), ..drawn },
+    };
+    let readings = readings_around(random, &fixed, figure).unwrap_or(drawn);
+    let (_, high) = figure.edges(&readings);
+    let wanted = match turn / 5 % 3 {
+        0 => high + 1,
+        1 => high,
+        _ => random.between(0, high),
+    };
+    report_with(random, readings, figure, wanted)
 }

@@ -4,6 +4,7 @@ use super::changes::{self, CHANGES};
 use super::damage::damaged;
 use super::edges;
 use super::family_of;
+use super::flows;
 use super::page::Page;
 use super::recorder::{self, bytes, hour_with, readings, report, report_in};
 use crate::calendar::{hours_in_quarter, is_leap};
@@ -16,10 +17,12 @@ use crate::rounding::half_up;
 type Family = fn(&mut Random, usize) -> Vec<u8>;
 
 /// The families and their shares.
-const FAMILIES: [(Family, usize); 19] = [
+const FAMILIES: [(Family, usize); 24] = [
     (honest, 8),
     (edge, 16),
     (tight_edge, 10),
+    (exact_heat, 4),
+    (without_flow, 5),
     (far_off, 4),
     (too_large, 1),
     (two_impossible, 4),
@@ -31,6 +34,9 @@ const FAMILIES: [(Family, usize); 19] = [
     (format, 8),
     (range, 8),
     (good_range, 4),
+    (uneven_flow, 6),
+    (uneven_and_more, 14),
+    (broken_flow, 2),
     (date, 7),
     (good_date, 3),
     (inner, 8),
@@ -63,6 +69,16 @@ fn edge(random: &mut Random, turn: usize) -> Vec<u8> {
 
 fn tight_edge(random: &mut Random, turn: usize) -> Vec<u8> {
     let report = edges::at_tight_edge(random, turn);
+    bytes(random, &report)
+}
+
+fn exact_heat(random: &mut Random, turn: usize) -> Vec<u8> {
+    let report = edges::at_exact_heat(random, turn);
+    bytes(random, &report)
+}
+
+fn without_flow(random: &mut Random, turn: usize) -> Vec<u8> {
+    let report = edges::without_flow(random, turn);
     bytes(random, &report)
 }
 
@@ -144,7 +160,7 @@ fn half_total(random: &mut Random, turn: usize) -> Vec<u8> {
     let time = random.pick(&[1, 20, 25, 50, 80, 100]);
     let rate = 100_000 / time * (2 * random.between(0, 3) + 1) + [0, 1, 2][turn % 3] - 1;
     let so2 = random.between(20_000, 60_000);
-    let flow = rate * 1_000_000_000 / (166 * so2);
+    let flow = half_up(rate * 1_000_000, 166 * so2);
     let fixed = Readings { so2, flow, co2: 1, fc: 30_000, nox: 5 };
     let hour_of_quarter = report.hours[0].hour_of_quarter;
     report.hours = vec![hour_with(random, hour_of_quarter, fixed)];
@@ -218,12 +234,12 @@ fn good_range(random: &mut Random, turn: usize) -> Vec<u8> {
     let count = 1 + random.below(3);
     let mut report = report(random, count);
     let rank = random.below(count);
-    let base = Readings { so2: 10, nox: 10, co2: 100, flow: 1_000_000, fc: 18_000 };
+    let base = Readings { so2: 10, nox: 10, co2: 100, flow: 1_000, fc: 18_000 };
     let fixed = match turn % 12 {
         0 => Readings { co2: 1, ..base },
         1 => Readings { co2: 1_000, ..base },
         2 => Readings { flow: 0, ..base },
-        3 => Readings { flow: 500_000_000, ..base },
+        3 => Readings { flow: 500_000, ..base },
         4 => Readings { fc: 5_000, ..base },
         5 => Readings { fc: 30_000, ..base },
         6 => Readings { so2: 0, nox: 0, ..base },
@@ -235,6 +251,59 @@ fn good_range(random: &mut Random, turn: usize) -> Vec<u8> {
     report.hours[rank].time = if turn % 2 == 0 { 1 } else { 100 };
     report.add_up();
     fitting(random, report)
+}
+
+/// Flow that is no whole thousand, in one hour or two, and no other fault.
+fn uneven_flow(random: &mut Random, turn: usize) -> Vec<u8> {
+    let mut page = page(random, 1);
+    flows::uneven_flow(random, turn, &mut page);
+    if turn % 4 == 3 {
+        flows::uneven_flow(random, turn / 4, &mut page);
+    }
+    page.bytes()
+}
+
+/// Flow that is no whole thousand, and another fault before it, on its line or
+/// behind it.
+fn uneven_and_more(random: &mut Random, turn: usize) -> Vec<u8> {
+    let (way, turn) = (turn % 9, turn / 9);
+    let mut report = if way == 0 {
+        edges::far_off(random, turn)
+    } else {
+        let count = 2 + random.below(3);
+        report(random, count)
+    };
+    if way == 1 {
+        report.totals[turn % 3] += 1;
+    }
+    let mut page = Page::of(&bytes(random, &report));
+    let (line, count) = (flows::any_line(random, &page), page.lines.len());
+    flows::uneven_on(random, line, &mut page);
+    // The first of these is the same fault again.
+    let fault = changes::ON_LINE[1 + turn % (changes::ON_LINE.len() - 1)];
+    match way {
+        2 => flows::too_large_flow(random, turn, &mut page),
+        3 => flows::broken_flow(random, turn, &mut page),
+        4 => fault(random, line, &mut page),
+        5 => {
+            let before = random.below(line);
+            fault(random, before, &mut page);
+        }
+        6 => {
+            let behind = line + 1 + random.below(count - line - 1);
+            fault(random, behind, &mut page);
+        }
+        7 => page.lines.truncate(1 + random.below(count)),
+        8 => return damaged(random, turn, page),
+        _ => {}
+    }
+    page.bytes()
+}
+
+fn broken_flow(random: &mut Random, turn: usize) -> Vec<u8> {
+    let mut page = page(random, 1);
+    flows::broken_flow(random, turn, &mut page);
+    page.bytes()
 }
 
 fn date(random: &mut Random, turn: usize) -> Vec<u8> {

@@ -3,6 +3,7 @@
 
 use super::changes::{self, CHANGES};
 use super::edges::set_at_edge;
+use super::flows;
 use super::page::{two_below, Page};
 use super::recorder::{column_limits, honest_figures};
 use super::sheets::{order, order_in, words_of};
@@ -18,10 +19,13 @@ use crate::write::{hour_of, report_of, Order, WORDS};
 const MOST_EDITS: usize = 1_500;
 
 /// How many kinds of steps there are.
-const STEPS: usize = 21;
+const STEPS: usize = 22;
 
 /// The step that makes one 200 line too many.
 const ONE_MORE: usize = 20;
+
+/// The step that makes a flow no whole thousand.
+const UNEVEN: usize = 21;
 
 /// Which of the full quarters has the largest totals.
 const HEAVIEST: usize = 5;
@@ -36,8 +40,8 @@ pub fn full(random: &mut Random, number: usize) -> Vec<Case> {
     let hours = hours_in_quarter(year, quarter) as usize;
     let mut order = order_in(random, year, quarter, hours);
     if number == HEAVIEST {
-        // Every hour has the largest heat, and nearly the largest SO2 figure.
-        let readings = Readings { so2: 60_240, nox: 99_999, co2: 1_000, flow: 99_999_900, fc: 10_000 };
+        // Every hour has the largest heat and the largest SO2 figure.
+        let readings = Readings { so2: 30_000, nox: 99_999, co2: 996, flow: 200_803, fc: 20_000 };
         let hour = |hour_of_quarter| Hour { hour_of_quarter, time: 100, readings, figures: [0; 4] };
         order.words = (0..hours as u32).flat_map(|h| words_of(&hour(h))).collect();
     }
@@ -46,7 +50,7 @@ pub fn full(random: &mut Random, number: usize) -> Vec<Case> {
         // The largest report of all, one byte too many for its room.
         cases.push(Case::Write { order: order.clone(), room: report_length(hours) - 1 });
     }
-    cases.extend(written(random, order, (number * 7..number * 7 + 14).chain([ONE_MORE])));
+    cases.extend(written(random, order, (number * 7..number * 7 + 14).chain([ONE_MORE, UNEVEN])));
     cases
 }
 
@@ -153,6 +157,11 @@ fn changed(random: &mut Random, step: usize, report: &Report) -> Vec<u8> {
             return page.bytes();
         }
         ONE_MORE => return one_more(random, report),
+        UNEVEN => {
+            let mut page = Page::of(&report.bytes(&mut PlainPen));
+            flows::uneven_on(random, flows::line_of_hour(&page, rank), &mut page);
+            return page.bytes();
+        }
         _ => return changed_lines(random, turn, report, 2),
     }
     let report = if next.fits() { &next } else { report };

@@ -3,7 +3,7 @@
 
 use crate::calendar::{hours_in_quarter, is_leap};
 use crate::figures::{Figure, Formula, Readings, FIGURES};
-use crate::layout::{largest, plain_number, R300, R310, R320, R330};
+use crate::layout::{plain_number, Value, R300, R310, R320, R330};
 use crate::random::Random;
 use crate::report::{Hour, Pen, PlainPen, Report};
 use crate::rounding::half_up;
@@ -13,7 +13,7 @@ const PARTS: u128 = 1_000_000;
 
 /// The largest figures that the columns hold: heat, SO2, NOx, CO2.
 pub fn column_limits() -> [u128; 4] {
-    [&R300.values[1], &R310.values[0], &R320.values[1], &R330.values[0]].map(largest)
+    [&R300.values[1], &R310.values[0], &R320.values[1], &R330.values[0]].map(Value::largest)
 }
 
 /// An unrounded reading, in parts, that rounds to the recorded one; often at
@@ -55,7 +55,7 @@ fn usual(random: &mut Random) -> Readings {
         so2: random.between(0, 8_000),
         nox: random.between(0, 6_000),
         co2: random.between(30, 180),
-        flow: random.between(500_000, 60_000_000),
+        flow: random.between(500, 60_000),
         fc: random.pick(&[18_000, 18_400, 10_400, 14_200, 19_100]),
     }
 }
@@ -66,7 +66,7 @@ fn any(random: &mut Random) -> Readings {
         so2: random.spread(99_999),
         nox: random.spread(99_999),
         co2: random.spread(1_000).max(1),
-        flow: random.spread(500_000_000),
+        flow: random.spread(500_000),
         fc: random.between(5_000, 30_000),
     }
 }
@@ -78,7 +78,7 @@ fn extreme(random: &mut Random) -> Readings {
         so2: random.pick(&[0, 0, 1, 99_999, 99_998, other.so2]),
         nox: random.pick(&[0, 0, 1, 99_999, 99_998, other.nox]),
         co2: random.pick(&[1, 1, 2, 999, 1_000, 1_000, other.co2]),
-        flow: random.pick(&[0, 0, 1, 2, 499_999_999, 500_000_000, other.flow]),
+        flow: random.pick(&[0, 0, 1, 2, 499_999, 500_000, other.flow]),
         fc: random.pick(&[5_000, 5_000, 5_001, 29_999, 30_000, 30_000, other.fc]),
     }
 }
@@ -234,5 +234,28 @@ pub fn bytes(random: &mut Random, report: &Report) -> Vec<u8> {
         report.bytes(&mut OddPen(random))
     } else {
         report.bytes(&mut PlainPen)
+    }
+}
+
+#[cfg(test)]
+mod tests {
+    use super::*;
+
+    #[test]
+    fn unrounded_readings_round_to_the_recorded_one() {
+        let mut random = Random::new(8);
+        for recorded in (0..1_000).chain(499_990..=500_000) {
+            assert_eq!(half_up(unrounded(&mut random, recorded), PARTS), recorded);
+        }
+    }
+
+    #[test]
+    fn figures_of_the_recorder_pass() {
+        let mut random = Random::new(9);
+        for _ in 0..10_000 {
+            let recorded = readings(&mut random);
+            let figures = honest_figures(&mut random, &recorded);
+            assert!(FIGURES.iter().zip(figures).all(|(f, figure)| f.possible(&recorded, figure)));
+        }
     }
 }

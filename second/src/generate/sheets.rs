@@ -1,11 +1,12 @@
 //! Sheets for the writer: sound ones, and each reason of refusal.
 
+use super::flows;
 use super::page::two_below;
 use super::recorder::{column_limits, name, readings, rising_hours, year_and_quarter};
 use crate::calendar::hours_in_quarter;
 use crate::cases::Case;
 use crate::figures::{Figure, Readings, FIGURES};
-use crate::layout::report_length;
+use crate::layout::{report_length, FLOW};
 use crate::random::Random;
 use crate::report::{place, Hour};
 use crate::write::{word, Order, WORDS};
@@ -14,7 +15,7 @@ use crate::write::{word, Order, WORDS};
 pub fn words_of(hour: &Hour) -> [u32; WORDS] {
     let r = &hour.readings;
     let first = u128::from(hour.hour_of_quarter) * 128 + hour.time;
-    let values = [first, r.so2, r.nox, r.co2, r.flow, r.fc];
+    let values = [first, r.so2, r.nox, r.co2, r.flow * FLOW.unit, r.fc];
     [0, 1, 2, 3, 4, 5].map(|kind| word(kind, values[kind as usize] as u32))
 }
 
@@ -42,14 +43,16 @@ fn need(order: &Order) -> usize {
 
 /// The sheet case with this number.
 pub fn sheet(random: &mut Random, number: usize) -> Case {
-    let turn = number / 7;
-    match number % 7 {
+    let turn = number / 9;
+    match number % 9 {
         0 => good_or_short(random, turn),
         1 => with_room(random, |random| wrong_kind(random, turn)),
         2 => with_room(random, |random| wrong_head(random, turn)),
         3 => with_room(random, |random| at_range(random, turn)),
         4 => with_room(random, |random| at_limit(random, turn)),
         5 => with_room(random, |random| at_quarter_end(random, turn)),
+        6 => with_room(random, |random| flow_at_range(random, turn)),
+        7 => uneven_flow(random, turn),
         _ => many_faults(random, turn),
     }
 }
@@ -179,22 +182,39 @@ fn at_range(random: &mut Random, turn: usize) -> Order {
         (1, [0, 1, 99_999, 100_000, 0x1FFF_FFFF]),
         (2, [0, 1, 99_999, 100_000, 0x1FFF_FFFF]),
         (3, [0, 1, 1_000, 1_001, 0x1FFF_FFFF]),
-        (4, [0, 1, 500_000_000, 500_000_001, 0x1FFF_FFFF]),
+        (4, [0, 1_000, 500_000_000, 500_001_000, 0x1FFF_FFFF]),
         (5, [4_999, 5_000, 30_000, 30_001, 0]),
     ];
+    let (kind, ends) = ENDS[turn % 6];
+    with_value(random, kind, ends[turn / 6 % 5])
+}
+
+/// Flow about the ends of its range: whole thousands, and just beyond them.
+fn flow_at_range(random: &mut Random, turn: usize) -> Order {
+    let thousands = [500_000, 0, 500_001, 1, 499_999][turn % 5];
+    let over = [0, 1, 500, 999][turn % 4];
+    with_value(random, 4, 1_000 * thousands + over)
+}
+
+/// A sound order but for one value in any hour; the hour's other values are
+/// modest, so that the figures fit beside an extreme one.
+fn with_value(random: &mut Random, kind: u32, value: u32) -> Order {
     let count = 1 + random.below(4);
     let mut order = order(random, count);
-    let (kind, ends) = ENDS[turn % 6];
-    let value = ends[turn / 6 % 5];
-    let place = WORDS * random.below(count);
-    // Modest readings, so that the figures fit beside an extreme one.
-    let modest = Readings { so2: 10, nox: 10, co2: 100, flow: 1_000_000, fc: 18_000 };
-    let first = order.words[place] & 0x1FFF_FFFF;
-    let hour = Hour { hour_of_quarter: first / 128, time: 100, readings: modest, figures: [0; 4] };
-    order.words[place..place + WORDS].copy_from_slice(&words_of(&hour));
-    let at = place + kind as usize;
-    order.words[at] = if kind == 0 { word(0, first / 128 * 128 + value) } else { word(kind, value) };
+    let rank = random.below(count);
+    let modest = Readings { so2: 10, nox: 10, co2: 100, flow: 1_000, fc: 18_000 };
+    set_readings(&mut order, rank, modest);
+    let at = WORDS * rank + kind as usize;
+    order.words[at] = if kind == 0 { order.words[at] / 128 * 128 + value } else { word(kind, value) };
     order
+}
+
+/// Gives an hour of the order these readings, and a whole hour of time.
+fn set_readings(order: &mut Order, rank: usize, readings: Readings) {
+    let place = WORDS * rank;
+    let hour_of_quarter = (order.words[place] & 0x1FFF_FFFF) / 128;
+    let hour = Hour { hour_of_quarter, time: 100, readings, figures: [0; 4] };
+    order.words[place..place + WORDS].copy_from_slice(&words_of(&hour));
 }
 
 /// Readings with a figure that just fits its column, or just does not. CO2
@@ -213,18 +233,17 @@ fn limit_readings(random: &mut Random, figure: Figure, over: bool) -> Readings {
             }
             Figure::Nox => {
                 let fc = random.between(5_000, 30_000);
-                Readings { so2: 3, nox: 0, co2: random.between(1, 100), flow: 1_000, fc }
+                Readings { so2: 3, nox: 0, co2: random.between(1, 100), flow: 1, fc }
             }
             // CO2 100.0 would make heat too large here.
-            Figure::Co2 => return Readings { so2: 3, nox: 5, co2: 599, flow: 500_000_000, fc: 30_000 },
+            Figure::Co2 => return Readings { so2: 3, nox: 5, co2: 599, flow: 500_000, fc: 30_000 },
         };
         let set = |readings: &mut Readings, value: u128| match figure {
             Figure::Nox => readings.nox = value,
             _ => readings.flow = value,
         };
         // The largest reading whose figure fits lies in [low, high).
-        let (mut low, mut high) = (0, if figure == Figure::Nox { 100_000 } else { 500_000_001 });
-        let end = high;
+        let (mut low, mut high) = (0, if figure == Figure::Nox { 100_000 } else { 500_001 });
         while high - low > 1 {
             let half = (low + high) / 2;
             set(&mut readings, half);
@@ -235,11 +254,12 @@ fn limit_readings(random: &mut Random, figure: Figure, over: bool) -> Readings {
             }
         }
         set(&mut readings, if over { high } else { low });
+        let just = figure.of_recorded(&readings) == limit + u128::from(over);
         let others_fit = FIGURES
             .iter()
             .zip(column_limits())
             .all(|(&f, limit)| f == figure || f.of_recorded(&readings) <= limit);
-        if high < end && others_fit {
+        if just && others_fit {
             return readings;
         }
     }
@@ -251,39 +271,54 @@ fn at_limit(random: &mut Random, turn: usize) -> Order {
     let figure = if turn % 17 == 16 { Figure::Co2 } else { figure };
     let count = 1 + random.below(4);
     let mut order = order(random, count);
-    let place = WORDS * random.below(count);
-    let first = order.words[place] & 0x1FFF_FFFF;
     let readings = limit_readings(random, figure, turn / 3 % 3 > 0);
-    let hour = Hour { hour_of_quarter: first / 128, time: 100, readings, figures: [0; 4] };
-    order.words[place..place + WORDS].copy_from_slice(&words_of(&hour));
+    set_readings(&mut order, random.below(count), readings);
     order
 }
 
 /// Faults of two or more numbers in one order, to see which comes first.
 fn many_faults(random: &mut Random, turn: usize) -> Case {
+    let faults = [0b0011, 0b0101, 0b1001, 0b0110, 0b1010, 0b1100, 0b0111, 0b1110, 0b1111, 0b1011][turn % 10];
+    with_faults(random, faults, |random, order, ranks| {
+        let (kind, value) = random.pick(&[
+            (1, 100_000),
+            (2, 100_000),
+            (3, 0),
+            (3, 1_001),
+            (4, 500_001_000),
+            (5, 4_999),
+            (5, 30_001),
+        ]);
+        order.words[WORDS * ranks[ranks.len() / 2] + kind as usize] = word(kind, value);
+    })
+}
+
+/// Flow that is no whole thousand, as the only fault or with others, which may
+/// be the same hour's.
+fn uneven_flow(random: &mut Random, turn: usize) -> Case {
+    let faults = [0b0010, 0b0011, 0b0110, 0b1010, 0b0010, 0b0111, 0b1110, 0b1011, 0b1111][turn % 9];
+    with_faults(random, faults, |random, order, ranks| {
+        let at = WORDS * ranks[random.below(ranks.len())] + 4;
+        let flow = u128::from(order.words[at] & 0x1FFF_FFFF);
+        order.words[at] = word(4, flows::uneven(random, turn, flow) as u32);
+    })
+}
+
+/// An order with the faults 31, 32, 33 and 34 that the bits of `faults` name,
+/// the lowest for 31. The values are spoiled by `spoil`, which gets the hours'
+/// ranks; that of the figure too large comes first.
+fn with_faults(random: &mut Random, faults: u8, spoil: impl Fn(&mut Random, &mut Order, &[usize])) -> Case {
     let count = 2 + random.below(4);
     let mut order = order(random, count);
-    let faults = [0b0011, 0b0101, 0b1001, 0b0110, 0b1010, 0b1100, 0b0111, 0b1110, 0b1111, 0b1011][turn % 10];
     let mut ranks: Vec<usize> = (0..count).collect();
     ranks.rotate_left(random.below(count));
     if faults & 0b0100 != 0 {
         let figure = random.pick(&[Figure::Heat, Figure::So2, Figure::Nox]);
         let readings = limit_readings(random, figure, true);
-        let first = order.words[WORDS * ranks[0]] & 0x1FFF_FFFF;
-        let hour = Hour { hour_of_quarter: first / 128, time: 100, readings, figures: [0; 4] };
-        order.words[WORDS * ranks[0]..WORDS * ranks[0] + WORDS].copy_from_slice(&words_of(&hour));
+        set_readings(&mut order, ranks[0], readings);
     }
     if faults & 0b0010 != 0 {
-        let beyond = random.pick(&[
-            (1, 100_000),
-            (2, 100_000),
-            (3, 0),
-            (3, 1_001),
-            (4, 500_000_001),
-            (5, 4_999),
-            (5, 30_001),
-        ]);
-        order.words[WORDS * ranks[count / 2] + beyond.0 as usize] = word(beyond.0, beyond.1);
+        spoil(random, &mut order, &ranks);
     }
     if faults & 0b0001 != 0 {
         match random.below(6) {

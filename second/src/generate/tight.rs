@@ -6,8 +6,9 @@
 //! looked for, K from the figure, both odd, and a and b from the formula and
 //! the other readings. We look for `a * N = b * K + d` with the least d.
 
-use crate::figures::{Figure, Readings};
+use crate::figures::{Figure, Formula, Readings};
 use crate::random::Random;
+use crate::rounding::span;
 
 /// Greatest common divisor g of a and m, and x with `a * x = g` up to
 /// multiples of m.
@@ -39,6 +40,43 @@ fn solve(random: &mut Random, turn: usize, a: i128, b: i128, limit: i128) -> Opt
     (k > 0 && k % 2 == 1).then_some((n, k))
 }
 
+/// An Fc with which heat can meet an edge exactly: twice an odd number. With two
+/// factors 5 more it does so at small flows too.
+fn fc_for_heat(random: &mut Random) -> u128 {
+    let (factor, low, high) = random.pick(&[(2, 1_250, 7_499), (50, 50, 299)]);
+    factor * (2 * random.between(low, high) + 1)
+}
+
+/// Whether the values of the readings end exactly where the figure's span
+/// starts; for the lower edge, whether they start where the span ends.
+pub fn meets(figure: Figure, readings: &Readings, wanted: u128, upper: bool) -> bool {
+    let wanted = span(wanted);
+    match (figure.formula(readings), upper) {
+        (Formula::Product { top, bottom, x, y }, true) => {
+            top * span(x).high * span(y).high == wanted.low * 2 * bottom
+        }
+        (Formula::Product { top, bottom, x, y }, false) => {
+            top * span(x).low * span(y).low == wanted.high * 2 * bottom
+        }
+        (Formula::Quotient { top, bottom, x, y }, true) => {
+            2 * top * span(x).high == wanted.low * bottom * span(y).low
+        }
+        (Formula::Quotient { top, bottom, x, y }, false) => {
+            2 * top * span(x).low == wanted.high * bottom * span(y).high
+        }
+    }
+}
+
+/// Readings and a heat figure that meet exactly at the upper or lower edge.
+pub fn exact_heat(random: &mut Random, upper: bool) -> (Readings, u128) {
+    loop {
+        let found = find(random, Figure::Heat, usize::from(!upper));
+        if let Some((readings, wanted)) = found.filter(|(r, w)| meets(Figure::Heat, r, *w, upper)) {
+            return (readings, wanted);
+        }
+    }
+}
+
 /// Readings and a figure whose edge they just meet or just miss. Even turns
 /// look at the upper edge, odd turns at the lower one. Only the readings that
 /// the figure uses count.
@@ -51,21 +89,24 @@ pub fn find(random: &mut Random, figure: Figure, turn: usize) -> Option<(Reading
 
     let so2 = random.spread(99_999).max(1);
     let co2 = random.between(1, 1_000);
-    let mut fc = random.between(5_000, 30_000);
-    if figure == Figure::Nox && !random.once_in(4) {
+    let fc = match figure {
+        Figure::Heat if !random.once_in(4) => fc_for_heat(random),
         // Exact hits ask for an odd multiple of 16 with many factors 5.
-        fc = 16 * random.pick(&[375, 625, 875, 1_125, 1_375, 1_625, 1_875, 1_250]);
-    }
+        Figure::Nox if !random.once_in(4) => {
+            16 * random.pick(&[375, 625, 875, 1_125, 1_375, 1_625, 1_875, 1_250])
+        }
+        _ => random.between(5_000, 30_000),
+    };
     let (a, b, limit) = match figure {
-        Figure::Heat => (end(co2, upper), 20 * fc as i128, 1_000_000_001),
-        Figure::So2 => (83 * end(so2, upper), 1_000_000_000, 1_000_000_001),
+        Figure::Heat => (50 * end(co2, upper), fc as i128, random.pick(&[1_000_001, 4_001])),
+        Figure::So2 => (83 * end(so2, upper), 1_000_000, 1_000_001),
         Figure::Nox => (597 * fc as i128, 250_000 * end(co2, !upper), 199_999),
-        Figure::Co2 => (57 * end(co2, upper), 200_000_000, 1_000_000_001),
+        Figure::Co2 => (57 * end(co2, upper), 200_000, 1_000_001),
     };
     let (n, k) = solve(random, turn, a, b, limit)?;
     let reading = back(n, upper);
     let wanted = back(k, !upper);
-    let limit = if figure == Figure::Nox { 99_999 } else { 500_000_000 };
+    let limit = if figure == Figure::Nox { 99_999 } else { 500_000 };
     if reading > limit || (reading == 0 && !upper) {
         return None;
     }
@@ -82,35 +123,47 @@ mod tests {
     use crate::figures::FIGURES;
 
     /// What is found lies at an edge: of the figure and its neighbours one
-    /// passes and one does not.
+    /// passes and one does not. A figure that is met exactly does not pass.
     #[test]
     fn found_places_are_edges() {
         let mut random = Random::new(3);
-        let mut exact = 0;
         for figure in FIGURES {
-            let mut found = 0;
+            let (mut found, mut exact) = (0, [0; 2]);
             for turn in 0..60_000 {
                 let Some((readings, wanted)) = find(&mut random, figure, turn) else { continue };
                 found += 1;
+                let upper = turn % 2 == 0;
                 let passes = figure.possible(&readings, wanted);
-                let inward = if turn % 2 == 0 { wanted.checked_sub(1) } else { Some(wanted + 1) };
-                let outward = if turn % 2 == 0 { Some(wanted + 1) } else { wanted.checked_sub(1) };
+                let (below, above) = (wanted.checked_sub(1), Some(wanted + 1));
+                let (inward, outward) = if upper { (below, above) } else { (above, below) };
                 if passes {
                     assert!(outward.is_none_or(|f| !figure.possible(&readings, f)));
                 } else {
                     assert!(inward.is_none_or(|f| figure.possible(&readings, f)));
                 }
-                if figure == Figure::Nox && turn % 2 == 0 {
-                    let top = 597 * readings.fc * (2 * readings.nox + 1);
-                    let bottom = 250_000 * (2 * readings.co2 - 1);
-                    if top == bottom * (2 * wanted - 1) {
-                        exact += 1;
-                        assert!(!passes);
-                    }
+                if meets(figure, &readings, wanted, upper) {
+                    exact[usize::from(upper)] += 1;
+                    assert!(!passes);
                 }
             }
             assert!(found > 300, "{figure:?} {found}");
+            let can_meet = matches!(figure, Figure::Heat | Figure::Nox);
+            assert!(exact.iter().all(|&times| if can_meet { times > 50 } else { times == 0 }), "{exact:?}");
         }
-        assert!(exact > 50, "{exact}");
+    }
+
+    #[test]
+    fn exact_heat_is_just_missed() {
+        let mut random = Random::new(4);
+        let mut small_flows = 0;
+        for turn in 0..2_000 {
+            let upper = turn % 2 == 0;
+            let (readings, wanted) = exact_heat(&mut random, upper);
+            let inward = if upper { wanted - 1 } else { wanted + 1 };
+            assert!(!Figure::Heat.possible(&readings, wanted));
+            assert!(Figure::Heat.possible(&readings, inward));
+            small_flows += usize::from(readings.flow <= 2_000);
+        }
+        assert!(small_flows > 100, "{small_flows}");
     }
 }

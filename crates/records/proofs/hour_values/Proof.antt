@@ -24,6 +24,9 @@ enum-told-4 c = search needs
 enum-told-5 : tie.Need-enum-told-5
 enum-told-5 c = search needs
 
+scfh-of-requires : tie.Need-scfh-of-requires
+scfh-of-requires c κs = c .before .before .pre .1 .flow
+
 enum-told-6 : tie.Need-enum-told-6
 enum-told-6 c = search needs
 
@@ -52,14 +55,14 @@ returns-4 : tie.Need-returns-4
 returns-4 c = rw (c .enum-told4 .given .1)
 
 returns-5 : tie.Need-returns-5
-returns-5 c = rw (c .enum-told5 .given .1)
+returns-5 c = rw (c .before .enum-told5 .given .1, c .scfh-of .ensures)
 
 returns-6 : tie.Need-returns-6
 returns-6 c = rw (c .enum-told6 .given .1)
 
 returns-7 : tie.Need-returns-7
 returns-7 c =
-    let once : recordOf QuarterTotals .run ≡ Hourly = rw (c .enum-told7 .given .1) at (c .before .before .pre) in
+    let once : recordOf QuarterTotals .run ≡ Hourly = rw (c .enum-told7 .given .1) at (c .before .before .pre .0) in
     let z : _≡_ {A = ℕ} 0 1 = cc in
     absurd (omega arith)
 
@@ -81,6 +84,7 @@ hour-values-spec =
     enum-told-3
     enum-told-4
     enum-told-5
+    scfh-of-requires
     enum-told-6
     enum-told-7
     enum-told-8

@@ -46,10 +46,10 @@ add-word-value-5 c = search needs
 word-value-requires-6 : tie.Need-word-value-requires-6
 word-value-requires-6 c κs = search needs
 
-told : (sheet : List ℕ) (k : ℕ) {hour so2 nox co2 flow fc : ℕ} → hour ≡ wordValue (getD sheet (hourWords * k) 0) → so2 ≡ sheetValue sheet k 1
-    → nox ≡ sheetValue sheet k 2 → co2 ≡ sheetValue sheet k 3 → flow ≡ sheetValue sheet k 4 → fc ≡ sheetValue sheet k 5
+told : (sheet : List ℕ) (k : ℕ) {hour so2 nox co2 scfh fc : ℕ} → hour ≡ wordValue (getD sheet (hourWords * k) 0) → so2 ≡ sheetValue sheet k 1
+    → nox ≡ sheetValue sheet k 2 → co2 ≡ sheetValue sheet k 3 → scfh ≡ sheetValue sheet k 4 → fc ≡ sheetValue sheet k 5
     → _≡_ {A = SheetHour}
-    (record { hour = hour / timeSize; time = hour % timeSize; readings = record { so2 = so2; nox = nox; co2 = co2; flow = flow; fc = fc } })
+    (record { hour = hour / timeSize; time = hour % timeSize; so2 = so2; nox = nox; co2 = co2; scfh = scfh; fc = fc })
     (sheetHour sheet k)
 unfolding sheetHour
 told sheet k h s n c f g = rw (h, s, n, c, f, g, add-zero)

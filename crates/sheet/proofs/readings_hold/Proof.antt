@@ -26,9 +26,9 @@ within-requires-5 c κs = search needs
 within-requires-6 : tie.Need-within-requires-6
 within-requires-6 c κs = search needs
 
-told : (h : SheetHour) {t s n c f k : Bool} → t ≡ within timeHours (h .time) → s ≡ within so2Ppm (h .readings .so2)
-    → n ≡ within noxPpm (h .readings .nox) → c ≡ within co2Percent (h .readings .co2) → f ≡ within flowScfh (h .readings .flow)
-    → k ≡ within fFactor (h .readings .fc) → t && s && n && c && f && k ≡ readingsHold h
+told : (h : SheetHour) {t s n c f k : Bool} → t ≡ within timeHours (h .time) → s ≡ within so2Ppm (h .so2)
+    → n ≡ within noxPpm (h .nox) → c ≡ within co2Percent (h .co2) → f ≡ within flowScfh (h .scfh)
+    → k ≡ within fFactor (h .fc) → t && s && n && c && f && k ≡ readingsHold h
 unfolding readingsHold
 told h t s n c f k = rw (t, s, n, c, f, k)
 

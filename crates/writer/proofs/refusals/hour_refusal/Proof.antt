@@ -3,6 +3,7 @@ use mathlib.Core.Path.{_≡_, sym, ap, _∙_}
 use mathlib.Core.Bool.{Bool, true, false}
 use borrow.Author.Needs.{needs}
 use borrow.Author.Tests.{not-true, not-false}
+use Rattle.formulas.specs.Formulas.{roundedFigures}
 use Rattle.sheet.specs.SheetTests.{readingsHold}
 use Rattle.sheet.specs.TestLaws.{readings-true}
 use Rattle.sheet.specs.declared.SheetHour.{SheetHour}
@@ -15,8 +16,8 @@ use Rattle.writer.proofs.refusals.hour_refusal.Tie as tie
 abbrev read : tie.Else1 → tie.After-readings-hold
 read c = c .before
 
-abbrev rounded : tie.After-figures-hold → tie.After-rounded-figures
-rounded c = c .before
+abbrev recorded : tie.After-figures-hold → tie.After-recorded-readings
+recorded c = c .before .before
 
 readings-refused : (h : SheetHour) → readingsHold h ≡ false → 32 ≡ hourRefusal h
 unfolding hourRefusal
@@ -31,8 +32,9 @@ held : (c : tie.Else1) → readingsHold (read c .before .args .h) ≡ true
 held c = sym (read c .readings-hold .ensures) ∙ not-false _ (c .if1 .left)
 
 -- what was found of the figures
-found : (c : tie.After-figures-hold) → figuresFit (read (rounded c .before) .before .args .h) ≡ c .figures-hold .result
-found c = sym (ap figuresHold (rounded c .rounded-figures .ensures)) ∙ sym (c .figures-hold .ensures)
+found : (c : tie.After-figures-hold) → figuresFit (read (recorded c .before) .before .args .h) ≡ c .figures-hold .result
+found c =
+    sym (c .figures-hold .ensures ∙ ap figuresHold (c .before .rounded-figures .ensures ∙ ap roundedFigures (recorded c .recorded-readings .ensures)))
 
 readings-hold-requires : tie.Need-readings-hold-requires
 readings-hold-requires c κs = search needs
@@ -40,17 +42,20 @@ readings-hold-requires c κs = search needs
 returns : tie.Need-returns
 returns c = readings-refused (c .before .before .args .h) (sym (c .before .readings-hold .ensures) ∙ not-true _ (c .if1 .taken))
 
+recorded-readings-requires : tie.Need-recorded-readings-requires
+recorded-readings-requires c κs = search needs
+
 rounded-figures-requires : tie.Need-rounded-figures-requires
-rounded-figures-requires c κs = readings-true _ (held c) .1
+rounded-figures-requires c κs = rw (c .recorded-readings .ensures) (readings-true _ (held (c .before)) .2)
 
 figures-hold-requires : tie.Need-figures-hold-requires
 figures-hold-requires c κs = search needs
 
 returns-2 : tie.Need-returns-2
-returns-2 c = figures-decide _ (held (rounded (c .before) .before)) false (found (c .before) ∙ not-true _ (c .if2 .taken))
+returns-2 c = figures-decide _ (held (recorded (c .before) .before)) false (found (c .before) ∙ not-true _ (c .if2 .taken))
 
 returns-3 : tie.Need-returns-3
-returns-3 c = figures-decide _ (held (rounded (c .before) .before)) true (found (c .before) ∙ not-false _ (c .if2 .left))
+returns-3 c = figures-decide _ (held (recorded (c .before) .before)) true (found (c .before) ∙ not-false _ (c .if2 .left))
 
 pub hour-refusal-spec : {M : Type 1} → statement M
 hour-refusal-spec =
@@ -58,6 +63,7 @@ hour-refusal-spec =
     (tie.spec
     readings-hold-requires
     returns
+    recorded-readings-requires
     rounded-figures-requires
     figures-hold-requires
     returns-2

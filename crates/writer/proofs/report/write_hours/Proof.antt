@@ -103,8 +103,10 @@ write-hour-lines-requires c κs =
     let d = due (read (recorded c)) in
     let s = shaped (turn d) in
     let f = start s .pre in
-    let e = s .shape-of .ensures in
-    record { rank = d .if1 .taken; held = rw e (f .writable .held); named = f .named; room = rw e (omega (arith, f .room, turn d .loop .inv .kept)) }
+    let e = s .shape-of .ensures in (
+      record { rank = d .if1 .taken; held = rw e (f .writable .held); named = f .named; room = rw e (omega (arith, f .room, turn d .loop .inv .kept)) },
+      within (recorded c) .readings,
+    )
 
 add-k : tie.Need-add-k Inv-loop μ-loop
 add-k c = omega arith

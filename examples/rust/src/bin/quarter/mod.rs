@@ -2,7 +2,7 @@
 
 use edr::{hour_word, word, Kind, Written};
 
-/// Made-up readings of an hour of the quarter, with a flow from this one on.
+/// Made-up readings of an hour of the quarter, with a flow from this one on, a whole thousand.
 fn words_of(hour: u32, flow: u32) -> [u32; edr::HOUR_WORDS] {
     [
         hour_word(hour, 100), // operating time 1.00
