@@ -15,8 +15,7 @@ use Rattle.formulas.specs.declared.hour.Hour.{Hour}
 use Rattle.formulas.specs.declared.hour.Quantity.{Quantity}
 use Rattle.formulas.specs.declared.hour.Quantity.the-variants.{Heat, So2, Nox, Co2}
 use Rattle.totals.specs.declared.Quarter.{Quarter}
-use Rattle.lines.specs.LineFaults.{_orElse_, unless}
-use Rattle.lines.specs.FaultLaws.{or-zero, unless-none}
+use Rattle.exact.specs.Faults.{_orElse_, unless, or-zero, unless-none}
 use Rattle.lines.specs.Shows.{ofLineChecks}
 use Rattle.reading.specs.Recorded.{hourAt}
 use Rattle.checker.specs.Checked.{refusedAt, quantities, quantityAt, numberFor, typeFor, lineFor, judgedFigures}

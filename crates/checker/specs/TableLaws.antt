@@ -15,7 +15,7 @@ use Rattle.formulas.specs.declared.hour.Hour.{Hour}
 use Rattle.formulas.specs.declared.hour.Quantity.{Quantity}
 use Rattle.formulas.specs.declared.hour.Quantity.the-variants.{Heat, So2, Nox, Co2}
 use Rattle.totals.specs.declared.Quarter.{Quarter}
-use Rattle.lines.specs.LineFaults.{_orElse_, unless}
+use Rattle.exact.specs.Faults.{_orElse_, unless}
 use Rattle.reading.specs.Reading.{readOf}
 use Rattle.reading.specs.Recorded.{HasRecord, hoursOf, totalsIn}
 use Rattle.reading.specs.RecordedLaws.{has-record}

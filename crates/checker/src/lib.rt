@@ -9,7 +9,7 @@ use totals::Totals;
 ghost use mathlib.Core.Path.{_≡_};
 ghost use Prim.Native.Nat.{_<_};
 ghost use lib.Dec.{eqb};
-ghost use Rattle.lines.specs.LineFaults.{_orElse_, unless};
+ghost use Rattle.exact.specs.Faults.{_orElse_, unless};
 ghost use Rattle.checker.specs.Checked.{refusedAt, quantityAt, typeFor, totalsFault, comparedTotals, judged, checked};
 ghost use Rattle.checker.specs.Promise.{Promise};
 ghost use Rattle.checker.specs.Judging.{Judgeable};

@@ -1,20 +1,17 @@
 -- A year's record stored, or the refusal, and what long enough slices are.
 use Prim.Native.Nat.{ℕ, _≤_}
-use mathlib.Core.Path.{_≡_, refl}
+use mathlib.Core.Path.{_≡_}
 use mathlib.Core.List.{List}
-use mathlib.Core.Bool.{Bool, true, false, _||_}
+use mathlib.Core.Bool.{true, false}
 use native.Mathlib.Omega.{arith}
 use lib.ListN.{length, set}
 use borrow.Author.Tests.{ltb-false}
+use Rattle.exact.specs.Logic.{neither}
 use Rattle.annual.specs.Joined.{joinedOf, numbersOf}
 use Rattle.annual.specs.declared.YearToDate.{YearToDate}
 use Rattle.annual.specs.declared.Joined.the-variants.{Record, Refused}
 use Rattle.edr_c.specs.Boundary.{answerLength, yearLength, quarterIn, yearIn, tooShort, yearCode, yearFilled}
 use Rattle.edr_c.proofs.Filling.{store, stored}
-
-neither : (p q : Bool) → p || q ≡ false → (p ≡ false) × (q ≡ false)
-neither true q e = absurd (let z : _≡_ {A = ℕ} 0 1 = cc in omega arith)
-neither false q e = (refl, e)
 
 pub record LongEnough (previous answer buffer : List ℕ) : Type 0 where
   pub before : yearLength ≤ length previous

@@ -1,4 +1,5 @@
 pub mod Logic
+pub mod Faults
 pub mod Fraction
 pub mod FractionLaws
 pub mod Rounding

@@ -15,7 +15,7 @@ use Rattle.exact.specs.ProductLaw.{product-law}
 use Rattle.exact.specs.QuotientLaw.{recorded-divisors, quotient-law}
 use Rattle.layout.specs.Layout.{Within, flowScfh, thousandsOf}
 use Rattle.formulas.specs.Hour.{tenth, flowUnit, unitOf, figureOf, ReadingsWithin, Unrounded, asRecorded}
-use Rattle.formulas.specs.Formulas.{Measured, Equation, equationOf, Pair, pairOf, equationValue, RoundsTo, LiesBehind, spanOf, equationMeets, passesTest}
+use Rattle.formulas.specs.Formulas.{UnitCount, Equation, equationOf, Pair, pairOf, equationValue, RoundsTo, LiesBehind, spanOf, equationMeets, passesTest}
 use Rattle.formulas.specs.Formulas.{exactValue, recordedPair, roundedAt, roundedValue, figuresBy, roundedFigures, readingsFrom, figureFrom, hourFrom}
 use Rattle.formulas.specs.declared.Form.{Form}
 use Rattle.formulas.specs.declared.Form.the-variants.{Product, Quotient}
@@ -50,10 +50,10 @@ equation-sound Co2 r w = record { factor = lit< tt; right = tt }
 abbrev Exact : Equation → Span → Type 0
 Exact e r = (equationMeets e r ≡ true) ↔ ((p : Pair) × RoundsTo e p × In r (equationValue e p))
 
-abbrev equation : Form → Positive → Measured → Measured → Equation
+abbrev equation : Form → Positive → UnitCount → UnitCount → Equation
 equation f c x y = record { form = f; factor = plain c; left = x; right = y }
 
-exact-form : (f : Form) (c : Positive) (x y : Measured) → Divides f (y .count) → (r : Span) → Exact (equation f c x y) r
+exact-form : (f : Form) (c : Positive) (x y : UnitCount) → Divides f (y .count) → (r : Span) → Exact (equation f c x y) r
 exact-form Product c x y d r =
     Iff·trans (product-law c (spanOf x) (spanOf y) r) (
       λ b. (record { left = b .left; right = b .right }, record { left = b .left-in; right = b .right-in }, b .value-in),

@@ -19,22 +19,22 @@ use Rattle.formulas.specs.declared.hour.Quantity.{Quantity}
 use Rattle.formulas.specs.declared.hour.Quantity.the-variants.{Heat, So2, Nox, Co2}
 
 -- a recorded reading: so many units
-pub record Measured : Type 0 where
+pub record UnitCount : Type 0 where
   pub unit : Positive
   pub count : ℕ
 
-abbrev tenths : ℕ → Measured
+abbrev tenths : ℕ → UnitCount
 tenths n = record { unit = tenth; count = n }
 
-abbrev thousands : ℕ → Measured
+abbrev thousands : ℕ → UnitCount
 thousands n = record { unit = flowUnit; count = n }
 
 -- factor × left × right, or factor × left / right: the left reading is a concentration, the right one the flow or the diluent
 pub record Equation : Type 0 where
   pub form : Form
   pub factor : Fraction
-  pub left : Measured
-  pub right : Measured
+  pub left : UnitCount
+  pub right : UnitCount
 
 -- Fc, exact as recorded
 abbrev carbonFactor : Readings → Fraction
@@ -101,7 +101,7 @@ pub record LiesBehind (q : Quantity) (h : Hour) (p : Pair) : Type 0 where
   pub reads : RoundsTo (equationOf q (h .readings)) p
   pub gives : Records (unitOf q) (exactValue q (h .readings) p) (figureOf q (h .figures))
 
-abbrev pub spanOf : Measured → Span
+abbrev pub spanOf : UnitCount → Span
 spanOf m = span (m .unit) (m .count)
 
 -- the values that a form takes over two spans meet a third

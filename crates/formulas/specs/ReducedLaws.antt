@@ -8,7 +8,7 @@ use Rattle.exact.specs.FractionLaws.{quotient}
 use Rattle.exact.specs.Rounding.{span, recorded, lowEnd, highEnd, halfUp}
 use Rattle.exact.specs.RoundingLaws.{nearest-reduced}
 use Rattle.exact.specs.MeetsLaws.{meets-reduced}
-use Rattle.formulas.specs.Formulas.{Measured, Equation, formValue, equationValue, recordedPair, spanOf, formMeets, equationMeets}
+use Rattle.formulas.specs.Formulas.{UnitCount, Equation, formValue, equationValue, recordedPair, spanOf, formMeets, equationMeets}
 use Rattle.formulas.specs.FormulaLaws.{Divides}
 use Rattle.formulas.specs.Reduced.{upperUnit, lowerUnit, Reduces, formulaMeets, formulaRounded}
 use Rattle.formulas.specs.declared.Form.{Form}
@@ -41,7 +41,7 @@ divisor-rounded m n c p q d z e = omega (arith, ap (λ (t : ℕ). t * z) e)
 above-zero : (k : ℕ) → 0 < lowEnd k → 0 < k
 above-zero k h = omega arith
 
-meets-form : (k : Form) (f : Formula) (c : Fraction) (x y : Measured) (u : Positive) (m v : ℕ) → 0 < m →
+meets-form : (k : Form) (f : Formula) (c : Fraction) (x y : UnitCount) (u : Positive) (m v : ℕ) → 0 < m →
     m * f .num ≡ c .num * x .unit .num * upperUnit k (y .unit) * u .den →
     m * f .den ≡ c .den * x .unit .den * lowerUnit k (y .unit) * u .num →
     f .left ≡ x .count → f .right ≡ y .count →
@@ -65,7 +65,7 @@ pub reduced-meets : (f : Formula) (e : Equation) (u : Positive) → Reduces f e 
 reduced-meets f e u r v =
     meets-form (e .form) f (e .factor) (e .left) (e .right) u (r .common) v (r .above) (r .upper) (r .lower) (r .left) (r .right)
 
-rounded-form : (k : Form) (f : Formula) (c : Fraction) (x y : Measured) (u : Positive) (m : ℕ) → 0 < m →
+rounded-form : (k : Form) (f : Formula) (c : Fraction) (x y : UnitCount) (u : Positive) (m : ℕ) → 0 < m →
     m * f .num ≡ c .num * x .unit .num * upperUnit k (y .unit) * u .den →
     m * f .den ≡ c .den * x .unit .den * lowerUnit k (y .unit) * u .num →
     f .left ≡ x .count → f .right ≡ y .count → Divides k (y .count) →

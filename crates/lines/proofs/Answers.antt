@@ -7,7 +7,8 @@ use Rattle.columns.specs.Bytes.{isBlank, all}
 use Rattle.calendar.specs.declared.QuarterHour.{QuarterHour}
 use Rattle.layout.specs.Layout.{yearDigits, quarterDigit, valuesOf, within}
 use Rattle.layout.specs.declared.RecordType.the-variants.{Facility, So2Concentration}
-use Rattle.lines.specs.LineFaults.{_orElse_, unless, shapeFault, stackOf, commonFault, valuesFault, digitsIn, periodOn}
+use Rattle.exact.specs.Faults.{_orElse_, unless}
+use Rattle.lines.specs.LineFaults.{shapeFault, stackOf, commonFault, valuesFault, digitsIn, periodOn}
 use Rattle.lines.specs.LineFaults.{facilityFault, facilityLine, risingFault, hourOn, hourFault, hourNumber, hourLine}
 use Rattle.lines.specs.declared.Period.{Period}
 use Rattle.lines.specs.declared.FacilityLine.{FacilityLine}

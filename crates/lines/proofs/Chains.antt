@@ -1,14 +1,7 @@
 -- Faults looked for one after the other: the first that is there is the answer.
-use Prim.Native.Nat.{ℕ, zero, suc}
-use mathlib.Core.Path.{_≡_, refl, sym}
-use Rattle.lines.specs.LineFaults.{_orElse_}
-
-pub or-first : (a b : ℕ) → (a ≡ 0 → ⊥) → a orElse b ≡ a
-or-first zero b h = absurd (h refl)
-or-first (suc a) b h = refl
-
-pub or-next : (a b : ℕ) → a ≡ 0 → a orElse b ≡ b
-or-next a b h = rw h
+use Prim.Native.Nat.{ℕ}
+use mathlib.Core.Path.{_≡_, sym}
+use Rattle.exact.specs.Faults.{_orElse_, or-first}
 
 -- a fault f that is found at once, behind one that is not there, or behind two
 module _ (f : ℕ) where

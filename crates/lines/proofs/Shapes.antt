@@ -17,7 +17,8 @@ use Rattle.layout.specs.Layout.{codeOf, lengthOf, typeWidth, typeDigits}
 use Rattle.layout.specs.declared.RecordType.{RecordType}
 use Rattle.lines.specs.Lines.{firstLine}
 use Rattle.lines.specs.LineLaws.{first-take}
-use Rattle.lines.specs.LineFaults.{unless, typeIs, shapeFault}
+use Rattle.exact.specs.Faults.{unless}
+use Rattle.lines.specs.LineFaults.{typeIs, shapeFault}
 use Rattle.lines.specs.FaultLaws.{shape-length}
 use Rattle.lines.specs.Beginning.{isLine}
 

@@ -14,8 +14,8 @@ use Rattle.layout.specs.Layout.{dateWidth, rangedValue, valueCount, valuesOf, v
 use Rattle.layout.specs.ValueLaws.{value-count, value-of}
 use Rattle.layout.specs.declared.RecordType.{RecordType}
 use Rattle.layout.specs.declared.Value.{Value}
-use Rattle.lines.specs.LineFaults.{_orElse_, unless, fieldFault, fieldIn, valuesFault, dateFault}
-use Rattle.lines.proofs.Chains.{or-first, or-next}
+use Rattle.exact.specs.Faults.{_orElse_, unless, or-first, or-next}
+use Rattle.lines.specs.LineFaults.{fieldFault, fieldIn, valuesFault, dateFault}
 
 values-one : (t : RecordType) (i : ℕ) → i < valueCount t → drop i (valuesOf t) ≡ valueAt t i ∷ drop (i + 1) (valuesOf t)
 values-one t i h =

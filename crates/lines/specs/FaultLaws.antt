@@ -2,7 +2,7 @@
 use Prim.Native.Nat.{ℕ, zero, suc, _+_, _-_, _≤_, _<_}
 use mathlib.Core.Path.{_≡_, refl, ap, _∙_}
 use mathlib.Core.List.{List, [], _∷_}
-use mathlib.Core.Bool.{Bool, true, false, not}
+use mathlib.Core.Bool.{true, not}
 use native.Mathlib.Omega.{arith}
 use native.Mathlib.Nat.{le-of-suc-le-suc, not-suc-le-zero}
 use lib.Dec.{eqb, leb}
@@ -25,22 +25,12 @@ use Rattle.layout.specs.declared.RecordType.{RecordType}
 use Rattle.layout.specs.declared.RecordType.the-variants.{Facility, So2Concentration}
 use Rattle.layout.specs.declared.Value.{Value}
 use Rattle.stamp.specs.StampLaws.{stamp-below}
-use Rattle.lines.specs.LineFaults.{_orElse_, unless, typeIs, shapeFault, stackOf, commonFault, fieldFault, fieldIn, valuesFault, digitsIn, periodOn}
+use Rattle.exact.specs.Faults.{unless, or-zero, unless-zero}
+use Rattle.lines.specs.LineFaults.{typeIs, shapeFault, stackOf, commonFault, fieldFault, fieldIn, valuesFault, digitsIn, periodOn}
 use Rattle.lines.specs.LineFaults.{facilityFault, facilityLine, risingFault, dateOn, hourOn, hourFault, hourNumber, hourLine, Due, dateFault, dueFault}
 use Rattle.lines.specs.declared.Period.{Period}
 use Rattle.lines.specs.declared.FacilityLine.the-variants.{Of, Faulty as FaultyFacility}
 use Rattle.lines.specs.declared.HourLine.the-variants.{At as OfHour, Faulty as FaultyHour}
-
-pub or-zero : (a b : ℕ) → a orElse b ≡ 0 → (a ≡ 0) × (b ≡ 0)
-or-zero zero b e = (refl, e)
-or-zero (suc a) b e = absurd (omega arith)
-
-pub unless-none : (t : Bool) (n : ℕ) → 1 ≤ n → unless t n ≡ 0 → t ≡ true
-unless-none true n h e = refl
-unless-none false n h e = absurd (omega arith)
-
-pub unless-zero : (t : Bool) (k : ℕ) → unless t (suc k) ≡ 0 → t ≡ true
-unless-zero t k e = unless-none t (suc k) (omega arith) e
 
 module _ (t : RecordType) (line : List ℕ) (e : shapeFault t line ≡ 0) where
   pub shape-type : typeIs t line ≡ true

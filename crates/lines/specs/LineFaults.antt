@@ -2,9 +2,10 @@
 -- paper's table; 0 is none.
 use Prim.Native.Nat.{ℕ, zero, suc}
 use mathlib.Core.List.{List, [], _∷_}
-use mathlib.Core.Bool.{Bool, cond, not}
+use mathlib.Core.Bool.{Bool, not}
 use lib.Dec.{eqb, leb}
 use lib.ListN.{length, take}
+use Rattle.exact.specs.Faults.{_orElse_, unless}
 use Rattle.columns.specs.Bytes.{isBlank, isPrintable, all, same}
 use Rattle.columns.specs.Columns.{columns}
 use Rattle.columns.specs.Number.{digitsOnly, fieldOf, numberOf}
@@ -23,15 +24,6 @@ use Rattle.lines.specs.declared.FacilityLine.{FacilityLine}
 use Rattle.lines.specs.declared.FacilityLine.the-variants.{Of, Faulty as FaultyFacility}
 use Rattle.lines.specs.declared.HourLine.{HourLine}
 use Rattle.lines.specs.declared.HourLine.the-variants.{At as OfHour, Faulty as FaultyHour}
-
-infixr 40 _orElse_
--- the first fault of two
-abbrev pub _orElse_ : ℕ → ℕ → ℕ
-zero orElse b = b
-suc a orElse b = suc a
-
-abbrev pub unless : Bool → ℕ → ℕ
-unless holds number = cond holds 0 number
 
 -- 2, 3 and 4: the type, the length, the bytes
 

@@ -22,7 +22,8 @@ use Rattle.layout.specs.ValueLaws.{step-of}
 use Rattle.layout.specs.declared.RecordType.{RecordType}
 use Rattle.layout.specs.declared.RecordType.the-variants.{Facility, So2Concentration, VolumetricFlow}
 use Rattle.layout.specs.declared.Value.{Value}
-use Rattle.lines.specs.LineFaults.{_orElse_, unless, typeIs, shapeFault, stackOf, stackFault, commonFault, fieldFault, fieldIn, valuesFault, digitsIn}
+use Rattle.exact.specs.Faults.{_orElse_, unless}
+use Rattle.lines.specs.LineFaults.{typeIs, shapeFault, stackOf, stackFault, commonFault, fieldFault, fieldIn, valuesFault, digitsIn}
 use Rattle.lines.specs.LineFaults.{periodOn, facilityFault, facilityLine, risingFault, hourOn, hourFault, hourNumber, hourLine, Due, dateFault, dueFault}
 use Rattle.lines.specs.FaultLaws.{shape-type, common-shape}
 use Rattle.lines.specs.Shows.{Shows, ofLineChecks}

@@ -31,12 +31,12 @@ unfoldable pub printedLine : List ℕ → List ℕ → List ℕ
 printedLine word numbers = word ++ (allSpaced numbers ++ (10 ∷ []))
 
 -- "accepted" and "refused"
-abbrev pub wordOf : Answer → List ℕ
-wordOf (Accepted quarter) = 97 ∷ 99 ∷ 99 ∷ 101 ∷ 112 ∷ 116 ∷ 101 ∷ 100 ∷ []
-wordOf (Refused refusal) = 114 ∷ 101 ∷ 102 ∷ 117 ∷ 115 ∷ 101 ∷ 100 ∷ []
+abbrev pub outcomeWord : Answer → List ℕ
+outcomeWord (Accepted quarter) = 97 ∷ 99 ∷ 99 ∷ 101 ∷ 112 ∷ 116 ∷ 101 ∷ 100 ∷ []
+outcomeWord (Refused refusal) = 114 ∷ 101 ∷ 102 ∷ 117 ∷ 115 ∷ 101 ∷ 100 ∷ []
 
 abbrev pub printed : Answer → List ℕ
-printed answer = printedLine (wordOf answer) (numbersOf answer)
+printed answer = printedLine (outcomeWord answer) (numbersOf answer)
 
 -- the length of a word of eight letters, five spaces and numbers of 20 digits, and byte 10
 abbrev pub longestLine : ℕ

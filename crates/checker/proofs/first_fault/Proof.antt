@@ -1,18 +1,14 @@
 -- A fault found before stands; else the number stands where the totals differ.
-use mathlib.Core.Path.{_≡_, refl, sym, ap₂}
+use mathlib.Core.Path.{sym, ap₂}
 use mathlib.Core.Bool.{Bool}
-use Prim.Native.Nat.{ℕ, zero, suc}
+use Prim.Native.Nat.{ℕ}
 use borrow.Author.Tests.{eq-eqb, ne-eqb}
-use Rattle.lines.specs.LineFaults.{_orElse_, unless}
+use Rattle.exact.specs.Faults.{_orElse_, unless, or-first}
 use Rattle.checker.proofs.first_fault.Statement.{statement}
 use Rattle.checker.proofs.first_fault.Tie as tie
 
-before : (found other : ℕ) → (found ≡ 0 → ⊥) → found ≡ found orElse other
-before zero other h = absurd (h refl)
-before (suc found) other h = refl
-
 returns : tie.Need-returns
-returns c = let a = c .before .args in before (a .found) _ (c .if1 .taken)
+returns c = let a = c .before .args in sym (or-first (a .found) _ (c .if1 .taken))
 
 returns-2 : tie.Need-returns-2
 returns-2 c =

@@ -3,7 +3,7 @@ use Prim.Native.Nat.{ℕ, zero, suc}
 use mathlib.Core.Path.{_≡_, refl, ap, _∙_}
 use lib.ListN.{drop}
 use borrow.Author.Needs.{needs}
-use Rattle.lines.specs.LineFaults.{_orElse_}
+use Rattle.exact.specs.Faults.{_orElse_}
 use Rattle.checker.specs.Checked.{statedTotals, firstDiffering}
 use Rattle.checker.proofs.totals_fault.Statement.{statement}
 use Rattle.checker.proofs.totals_fault.Tie as tie

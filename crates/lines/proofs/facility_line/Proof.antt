@@ -12,7 +12,8 @@ use Rattle.columns.specs.Bytes.{isBlank, all}
 use Rattle.layout.specs.Layout.{lengthOf, within, yearDigits, quarterDigit}
 use Rattle.layout.specs.declared.RecordType.the-variants.{Facility}
 use Rattle.lines.specs.Lines.{firstLine}
-use Rattle.lines.specs.LineFaults.{unless, shapeFault, stackOf, digitsIn, facilityFault, facilityLine}
+use Rattle.exact.specs.Faults.{unless}
+use Rattle.lines.specs.LineFaults.{shapeFault, stackOf, digitsIn, facilityFault, facilityLine}
 use Rattle.lines.specs.declared.FacilityLine.{FacilityLine}
 use Rattle.lines.specs.declared.FacilityLine.the-variants.{Of, Faulty}
 use Rattle.lines.proofs.Chains.{first-of}

@@ -11,7 +11,8 @@ use Rattle.calendar.specs.declared.QuarterHour.the-variants.{At, Outside}
 use Rattle.layout.specs.Layout.{lengthOf, valuesOf}
 use Rattle.layout.specs.declared.RecordType.the-variants.{So2Concentration}
 use Rattle.lines.specs.Lines.{firstLine}
-use Rattle.lines.specs.LineFaults.{_orElse_, shapeFault, commonFault, valuesFault, risingFault, hourOn, hourFault, hourNumber, hourLine}
+use Rattle.exact.specs.Faults.{_orElse_}
+use Rattle.lines.specs.LineFaults.{shapeFault, commonFault, valuesFault, risingFault, hourOn, hourFault, hourNumber, hourLine}
 use Rattle.lines.specs.FaultLaws.{common-shape}
 use Rattle.lines.specs.declared.Period.{Period}
 use Rattle.lines.specs.declared.HourLine.{HourLine}

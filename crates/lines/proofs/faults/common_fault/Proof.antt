@@ -10,7 +10,8 @@ use Rattle.layout.specs.LayoutLaws.{length-least}
 use Rattle.layout.specs.declared.RecordType.{RecordType}
 use Rattle.lines.specs.Lines.{firstLine}
 use Rattle.lines.specs.LineFaults.{shapeFault, commonFault}
-use Rattle.lines.proofs.Chains.{first-of, or-next}
+use Rattle.exact.specs.Faults.{or-next}
+use Rattle.lines.proofs.Chains.{first-of}
 use Rattle.lines.proofs.Shapes.{line-known, line-length}
 use Rattle.lines.proofs.faults.common_fault.Statement.{statement}
 use Rattle.lines.proofs.faults.common_fault.Tie as tie

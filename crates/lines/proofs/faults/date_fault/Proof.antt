@@ -4,7 +4,8 @@ use mathlib.Core.Path.{_≡_, sym, _∙_}
 use Rattle.layout.specs.Layout.{dateColumn}
 use Rattle.layout.specs.LayoutLaws.{date-fits}
 use native.Mathlib.Omega.{arith}
-use Rattle.lines.specs.LineFaults.{unless, dateFault}
+use Rattle.exact.specs.Faults.{unless}
+use Rattle.lines.specs.LineFaults.{dateFault}
 use borrow.Author.Needs.{needs}
 use Rattle.lines.proofs.faults.date_fault.Statement.{statement}
 use Rattle.lines.proofs.faults.date_fault.Tie as tie

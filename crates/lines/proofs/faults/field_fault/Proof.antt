@@ -8,7 +8,8 @@ use Rattle.columns.specs.declared.Field.{Field}
 use Rattle.columns.specs.declared.Field.the-variants.{Number}
 use Rattle.layout.specs.Layout.{inRange, wholeSteps}
 use Rattle.layout.specs.declared.Value.{Value}
-use Rattle.lines.specs.LineFaults.{_orElse_, unless, fieldFault}
+use Rattle.exact.specs.Faults.{_orElse_, unless}
+use Rattle.lines.specs.LineFaults.{fieldFault}
 use Rattle.lines.proofs.faults.field_fault.Statement.{statement}
 use Rattle.lines.proofs.faults.field_fault.Tie as tie
 

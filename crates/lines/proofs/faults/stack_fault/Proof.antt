@@ -6,7 +6,8 @@ use Prim.Native.Nat.{ℕ}
 use Rattle.columns.specs.Bytes.{same}
 use Rattle.columns.specs.Columns.{columns}
 use Rattle.layout.specs.Layout.{stackStart, stackWidth}
-use Rattle.lines.specs.LineFaults.{unless, stackFault}
+use Rattle.exact.specs.Faults.{unless}
+use Rattle.lines.specs.LineFaults.{stackFault}
 use borrow.Author.Needs.{needs}
 use Rattle.lines.proofs.faults.stack_fault.Statement.{statement}
 use Rattle.lines.proofs.faults.stack_fault.Tie as tie
