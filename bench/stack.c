@@ -1,6 +1,6 @@
-/* How many bytes of stack edr_write, edr_check and edr_year_to_date use on a full quarter. Each is called on a stack that is filled with
-   one byte, and the lowest byte that has changed tells. Arguments, return addresses and what a function keeps below its stack pointer
-   count. */
+/* How many bytes of stack edr_write, edr_check and edr_year_to_date use on a full quarter, and edr_recorder_words on an hour. Each is
+   called on a stack that is filled with one byte, and the lowest byte that has changed tells. Arguments, return addresses and what a
+   function keeps below its stack pointer count. */
 #include <inttypes.h>
 #include <stdio.h>
 #include <string.h>
@@ -15,6 +15,9 @@ static uint8_t report[LENGTH];
 static uint64_t answer[EDR_ANSWER_LENGTH];
 static const uint64_t previous[EDR_YEAR_LENGTH] = {2005, 2, 4344, 9000, 3000000, 29000000};
 static uint64_t record[EDR_YEAR_LENGTH];
+static const uint8_t states[EDR_RECORDER_READINGS] = {EDR_READING_MEASURED, EDR_READING_SUBSTITUTED, EDR_READING_MEASURED, EDR_READING_MEASURED};
+static const double readings[EDR_RECORDER_READINGS] = {250.35, 200.0, 12.25, 20000500.0};
+static uint32_t words[EDR_RECORDER_ANSWER_LENGTH];
 static uint64_t returned;
 
 static uint8_t stack[1 << 16];
@@ -39,6 +42,12 @@ static void call_year_to_date(void)
     returned = edr_year_to_date(previous, EDR_YEAR_LENGTH, answer, EDR_ANSWER_LENGTH, 2005, 3, record, EDR_YEAR_LENGTH);
 }
 
+static void call_recorder_words(void)
+{
+    top = __builtin_frame_address(0);
+    returned = edr_recorder_words(states, EDR_RECORDER_READINGS, readings, EDR_RECORDER_READINGS, words, EDR_RECORDER_ANSWER_LENGTH);
+}
+
 static void measure(const char *name, void (*call)(void))
 {
     memset(stack, FILL, sizeof stack);
@@ -58,16 +67,17 @@ static void measure(const char *name, void (*call)(void))
 int main(void)
 {
     for (uint32_t hour = 0; hour < HOURS; hour++) {
-        uint32_t *words = sheet + EDR_HOUR_WORDS * hour;
-        words[0] = edr_hour_word(hour, 50);
-        words[1] = edr_word(EDR_KIND_SO2, 2500);
-        words[2] = edr_word(EDR_KIND_NOX, 2000);
-        words[3] = edr_word(EDR_KIND_CO2, 120);
-        words[4] = edr_word(EDR_KIND_FLOW, 20000000);
-        words[5] = edr_word(EDR_KIND_FC, 18000);
+        uint32_t *hour_words = sheet + EDR_HOUR_WORDS * hour;
+        hour_words[0] = edr_hour_word(hour, 50);
+        hour_words[1] = edr_word(EDR_KIND_SO2, 2500);
+        hour_words[2] = edr_word(EDR_KIND_NOX, 2000);
+        hour_words[3] = edr_word(EDR_KIND_CO2, 120);
+        hour_words[4] = edr_word(EDR_KIND_FLOW, 20000000);
+        hour_words[5] = edr_word(EDR_KIND_FC, 18000);
     }
     measure("edr_write", call_write);
     measure("edr_check", call_check);
     measure("edr_year_to_date", call_year_to_date);
+    measure("edr_recorder_words", call_recorder_words);
     return 0;
 }

@@ -1,6 +1,6 @@
-/* The check and the writer of quarterly stack reports, and the year to date, for C99 and C++11. Link with libedr_c.a, which
-   `rt staticlib edr_c` writes to target/staticlib. Behind each pointer are as many elements as the length after it says, and what a
-   call writes to overlaps nothing else that it is lent; else every call takes anything. */
+/* The check and the writer of quarterly stack reports, the year to date, and hours from a recorder, for C99 and C++11. Link with
+   libedr_c.a, which `rt staticlib edr_c` writes to target/staticlib. Behind each pointer are as many elements as the length after it
+   says, and what a call writes to overlaps nothing else that it is lent; else every call takes anything. */
 #ifndef EDR_H
 #define EDR_H
 
@@ -12,11 +12,13 @@ extern "C" {
 #endif
 
 enum {
-    EDR_MOST_HOURS = 2208, /* operating hours of the longest quarter */
-    EDR_HOUR_WORDS = 6,    /* words of a sheet for an operating hour */
-    EDR_NAME_LENGTH = 6,   /* bytes of a stack name */
-    EDR_ANSWER_LENGTH = 5, /* numbers of an answer */
-    EDR_YEAR_LENGTH = 6    /* numbers of a record of the year to date */
+    EDR_MOST_HOURS = 2208,         /* operating hours of the longest quarter */
+    EDR_HOUR_WORDS = 6,            /* words of a sheet for an operating hour */
+    EDR_NAME_LENGTH = 6,           /* bytes of a stack name */
+    EDR_ANSWER_LENGTH = 5,         /* numbers of an answer */
+    EDR_YEAR_LENGTH = 6,           /* numbers of a record of the year to date */
+    EDR_RECORDER_READINGS = 4,     /* readings of an hour from a recorder, in this order: SO2, NOx, CO2, flow */
+    EDR_RECORDER_ANSWER_LENGTH = 5 /* numbers of the answer to such an hour */
 };
 
 /* The bytes of a report of so many operating hours. */
@@ -34,6 +36,21 @@ enum edr_year_outcome {
     EDR_YEAR_REFUSED = 0,  /* record[0]: the refusal's number */
     EDR_YEAR_JOINED = 1,   /* record[0] to record[5]: year, quarter, operating hours, SO2, CO2 and heat in tenths */
     EDR_YEAR_TOO_SHORT = 2 /* nothing is written: less than EDR_YEAR_LENGTH in a record, or EDR_ANSWER_LENGTH in the answer */
+};
+
+/* What edr_recorder_words returns. */
+enum edr_recorder_outcome {
+    EDR_RECORDER_REFUSED = 0,   /* answer[0]: the refusal's number */
+    EDR_RECORDER_WORDS = 1,     /* answer[0] to answer[3]: words of SO2, NOx, CO2, flow; answer[4]: how many are substituted */
+    EDR_RECORDER_WRONG_FORM = 2 /* nothing is written: not EDR_RECORDER_READINGS states or readings, a state that is no
+                                   edr_reading_state, or room for less than EDR_RECORDER_ANSWER_LENGTH */
+};
+
+/* How a reading comes from a recorder. */
+enum edr_reading_state {
+    EDR_READING_MEASURED = 0,
+    EDR_READING_SUBSTITUTED = 1,
+    EDR_READING_ABSENT = 2 /* its double is not looked at */
 };
 
 /* The numbers of the refusals. README.md says what to do about each. */
@@ -75,7 +92,12 @@ enum edr_refusal {
     EDR_REFUSAL_YEAR_SUM = 42,    /* a sum over 9,999,999,999 tenths */
 
     /* a line of the file, tried after EDR_REFUSAL_RANGE */
-    EDR_REFUSAL_FLOW_NO_WHOLE_THOUSAND = 43 /* a flow that is not a whole thousand of scfh */
+    EDR_REFUSAL_FLOW_NO_WHOLE_THOUSAND = 43, /* a flow that is not a whole thousand of scfh */
+
+    /* an hour from a recorder, without a line: the three are tried on SO2, then on NOx, CO2 and flow */
+    EDR_REFUSAL_READING_ABSENT = 44,
+    EDR_REFUSAL_READING_NEGATIVE_OR_NOT_FINITE = 45, /* minus zero counts as 0 */
+    EDR_REFUSAL_READING_RANGE = 46 /* recorded as SO2 or NOx over 9,999.9, CO2 0.0 or over 100.0, flow over 500,000,000 */
 };
 
 /* The kinds of a sheet's words, in the order in which an hour's words stand, and what their values count. */
@@ -107,6 +129,12 @@ static inline uint32_t edr_hour_word(uint32_t hour, uint32_t time)
     return edr_word(EDR_KIND_HOUR, (hour < most_hour ? hour : most_hour) * 128 + (time < most_time ? time : most_time));
 }
 
+/* The value of a word, without its kind. */
+static inline uint32_t edr_value(uint32_t word)
+{
+    return word & EDR_MOST_VALUE;
+}
+
 /* Checks a report of `length` bytes and returns an edr_outcome. Elements of the answer that it does not fill keep their values. */
 uint64_t edr_check(const uint8_t *file, size_t length, uint64_t *answer, size_t room);
 
@@ -120,6 +148,13 @@ uint64_t edr_write(uint64_t year, uint64_t quarter, const uint8_t *name, size_t 
    not filled keep their values. */
 uint64_t edr_year_to_date(const uint64_t *previous, size_t previous_length, const uint64_t *answer, size_t answer_length,
                           uint64_t year, uint64_t quarter, uint64_t *record, size_t room);
+
+/* Makes the words of an hour from a recorder, as they stand in a sheet between the hour's and Fc's, and returns an
+   edr_recorder_outcome. Each reading has an edr_reading_state and a double: SO2 and NOx in ppm and CO2 in percent, recorded in tenths;
+   flow in scfh, recorded to the nearest 1,000. The double's exact binary value is rounded half up: the double 0.15 lies below 0.15 and
+   is recorded as 0.1. Elements of the answer that are not filled keep their values. */
+uint64_t edr_recorder_words(const uint8_t *states, size_t states_length, const double *readings, size_t readings_length,
+                            uint32_t *answer, size_t room);
 
 #ifdef __cplusplus
 }

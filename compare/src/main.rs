@@ -1,6 +1,7 @@
 //! Fresh cases of the second implementation's maker, answered by the proved library and by the second implementation. Prints each
 //! case whose answers differ, and at the end how many cases there were and how many differ.
 
+mod float_hours;
 mod years;
 
 use std::fmt::Display;
@@ -93,17 +94,19 @@ fn kind(case: &Case) -> &'static str {
 fn compare(seed: u64, count: usize) -> usize {
     let cases = generate::cases(seed, count);
     let joinings = generate::years(seed, count);
+    let hours = generate::float_hours(seed, count);
     let mut comparing = Comparing::default();
     let reports = cases.iter().map(|case| (kind(case), comparing.answers(case)));
     let years = joinings.iter().map(|joining| ("year to date", years::joined(joining)));
+    let recorders = hours.iter().map(|hour| ("recorder's hour", float_hours::recorded(hour)));
     let mut differ = 0;
-    for (number, (kind, Answers { proved, second })) in reports.chain(years).enumerate() {
+    for (number, (kind, Answers { proved, second })) in reports.chain(years).chain(recorders).enumerate() {
         if proved != second {
             differ += 1;
             println!("case {number}, {kind}: proved {proved}; second {second}");
         }
     }
-    println!("{} cases, {differ} differ", cases.len() + joinings.len());
+    println!("{} cases, {differ} differ", cases.len() + joinings.len() + hours.len());
     differ
 }
 

@@ -15,8 +15,8 @@ int main(void)
     if (!write_quarter(2004, 3, HOURS, 20000000)) {
         return 1;
     }
-    check_quarter(HOURS, answer);
+    check_report(HOURS, answer);
     damage();
-    check_quarter(HOURS, answer);
+    check_report(HOURS, answer);
     return 0;
 }

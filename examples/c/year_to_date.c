@@ -14,7 +14,7 @@ static bool join_quarter(const uint64_t previous[EDR_YEAR_LENGTH], unsigned quar
 {
     const uint32_t hours = made_up[quarter - 1].hours;
     uint64_t answer[EDR_ANSWER_LENGTH];
-    if (!write_quarter(YEAR, quarter, hours, made_up[quarter - 1].flow) || !check_quarter(hours, answer)) {
+    if (!write_quarter(YEAR, quarter, hours, made_up[quarter - 1].flow) || !check_report(hours, answer)) {
         return false;
     }
     const uint64_t outcome =

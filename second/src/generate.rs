@@ -4,6 +4,7 @@ mod changes;
 mod damage;
 mod edges;
 mod files;
+mod float_hours;
 mod flows;
 mod page;
 mod quarters;
@@ -14,6 +15,7 @@ mod years;
 
 use crate::cases::Case;
 use crate::random::Random;
+pub use float_hours::FloatHour;
 pub use years::Joining;
 
 /// Makes the cases of one written report.
@@ -48,6 +50,27 @@ pub fn years(seed: u64, count: usize) -> Vec<Joining> {
         .flat_map(|number| years::joinings(&mut Random::branch(seed, 4 * number as u64 + 3), number))
         .take(count)
         .collect()
+}
+
+/// Where the random numbers of a recorder's hours start: no other case comes to
+/// so high a part.
+const FLOAT_HOURS: u64 = 1 << 40;
+
+/// Hours of a recorder: the named ones, which all seeds have, and so many of
+/// this seed.
+pub fn float_hours(seed: u64, count: usize) -> Vec<FloatHour> {
+    let mut hours = float_hours::named();
+    hours.extend((0..count).map(|number| {
+        let random = &mut Random::branch(seed, FLOAT_HOURS + number as u64);
+        float_hours::hour(random, number)
+    }));
+    hours
+}
+
+/// So many numbers, no two of them alike, not even if they are cut to 32 bits.
+fn distinct(random: &mut Random, count: usize) -> Vec<u64> {
+    let (first, step) = (random.bits(), random.bits() | 1);
+    (0..count as u64).map(|place| first.wrapping_add(place.wrapping_mul(step))).collect()
 }
 
 /// The family with this number, and its turn. In every round of all families

@@ -35,10 +35,14 @@ impl Value {
         10u128.pow(digits as u32) - 1
     }
 
-    /// Whether a number is in the range, or, where there is none, fits into the
-    /// columns.
+    /// The ends of the range, or, where there is none, of what the columns hold.
+    pub fn limits(&self) -> (u128, u128) {
+        self.range.unwrap_or((0, self.largest()))
+    }
+
+    /// Whether a number is within the limits.
     pub fn in_range(&self, number: u128) -> bool {
-        let (low, high) = self.range.unwrap_or((0, self.largest()));
+        let (low, high) = self.limits();
         (low..=high).contains(&number)
     }
 

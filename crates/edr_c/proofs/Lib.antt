@@ -1,2 +1,3 @@
 pub mod Filling
 pub mod Years
+pub mod RecorderCall

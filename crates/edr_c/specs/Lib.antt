@@ -1,2 +1,4 @@
 pub mod Boundary
 pub mod BoundaryLaws
+pub mod RecorderCall
+pub mod RecorderExamples

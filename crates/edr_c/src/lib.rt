@@ -1,20 +1,37 @@
-// The boundary for C and Rust: the check, the writer and the year to date on plain numbers and slices.
+// The boundary for C and Rust: the check, the writer, the year to date and a recorder's hour on plain numbers and slices.
 use annual::Joined;
 use annual::YearToDate;
 use checker::Answer;
+use recorder::Recorded;
+use recorder::RecorderHour;
+use recorder::RecorderReading;
 use totals::Quarter;
 use writer::Written;
 ghost use mathlib.Core.Path.{_≡_};
-ghost use Prim.Native.Nat.{_≤_};
-ghost use lib.ListN.{length};
+ghost use Prim.Native.Nat.{_≤_, _<_};
+ghost use lib.ListN.{length, getD};
+ghost use lib.Ieee.{nan};
 ghost use Rattle.edr_c.specs.Boundary.{answerLength, yearLength, checkCode, checkFilled, writeCode, writeFilled};
 ghost use Rattle.edr_c.specs.Boundary.{quarterIn, yearIn, yearCode, yearFilled};
+ghost use Rattle.edr_c.specs.RecorderCall.{readingIn, recorderCode, recorderFilled};
 
 // The numbers of an answer.
 const ANSWER_LENGTH: usize = 5;
 
 // The numbers of a year's record.
 const YEAR_LENGTH: usize = 6;
+
+// The readings of an hour, and the numbers of its answer.
+const READINGS: usize = 4;
+
+const WORDS_LENGTH: usize = 5;
+
+// The states of a reading: 0 measured, 1 substituted, 2 absent.
+const MEASURED: u8 = 0;
+
+const SUBSTITUTED: u8 = 1;
+
+const ABSENT: u8 = 2;
 
 // 1 and n, SO2, CO2, heat and mean in answer[0..5] where the report is accepted; 0 and number and line in answer[0..2] where it is
 // refused; 2 where the answer has fewer than five elements. Elements beyond keep their values.
@@ -126,6 +143,63 @@ pub extern "C" fn edr_year_to_date(
         }
         Joined::Refused(number) => {
             record[0] = number;
+            0
+        }
+    }
+}
+
+// A reading by its state. The float of an absent one is not looked at.
+fn reading_in(states: &[u8], readings: &[f64], i: usize) -> RecorderReading
+    requires { ⌜ (i < length (now states)) × (i < length (now readings)) ⌝ }
+    ensures { λ r. ⌜ r ≡ readingIn (getD (now (states .entry)) i 0) (getD (now (readings .entry)) i nan) ⌝ }
+{
+    if states[i] == MEASURED {
+        return RecorderReading::Measured(readings[i]);
+    }
+    if states[i] == SUBSTITUTED {
+        return RecorderReading::Substituted(readings[i]);
+    }
+    RecorderReading::Absent
+}
+
+// 1 and the words of SO2, NOx, CO2 and flow and the number of substituted readings in answer[0..5]; 0 and the number in answer[0] where
+// the hour is refused; 2, with nothing written, for a state that is none, states or readings that are not four, or an answer of fewer than
+// five elements. Elements beyond keep their values.
+#[no_mangle]
+pub extern "C" fn edr_recorder_words(states: &[u8], readings: &[f64], answer: &mut [u32]) -> u64
+    ensures { λ r. ⌜ (r ≡ recorderCode (now (states .entry)) (now (readings .entry)) (now (answer .entry)))
+        × (now (answer .exit) ≡ recorderFilled (now (states .entry)) (now (readings .entry)) (now (answer .entry))) ⌝ }
+{
+    if (states.len() != READINGS) | (readings.len() != READINGS) | (answer.len() < WORDS_LENGTH) {
+        return 2;
+    }
+    let known = (states[0] <= ABSENT)
+        & (states[1] <= ABSENT)
+        & (states[2] <= ABSENT)
+        & (states[3] <= ABSENT);
+    if !known {
+        return 2;
+    }
+    let so2 = reading_in(states, readings, 0);
+    let nox = reading_in(states, readings, 1);
+    let co2 = reading_in(states, readings, 2);
+    let flow = reading_in(states, readings, 3);
+    match recorder::hour_words(RecorderHour {
+        so2,
+        nox,
+        co2,
+        flow,
+    }) {
+        Recorded::Words(words) => {
+            answer[0] = words.so2;
+            answer[1] = words.nox;
+            answer[2] = words.co2;
+            answer[3] = words.flow;
+            answer[4] = words.substituted;
+            1
+        }
+        Recorded::Refused(number) => {
+            answer[0] = number as u32;
             0
         }
     }

@@ -26,6 +26,28 @@ wordValue word = word % valueSize
 abbrev pub apart : ℕ → Word
 apart word = record { kind = wordKind word; value = wordValue word }
 
+-- the word of a kind and a value
+abbrev pub wordOf : (kind value : ℕ) → ℕ
+wordOf kind value = valueSize * kind + value
+
+-- how many kinds there may be
+abbrev pub kindSize : ℕ
+kindSize = 2 ^ 3
+
+-- the kinds of an hour's readings, each the place of its word in the hour
+
+abbrev pub so2Kind : ℕ
+so2Kind = 1
+
+abbrev pub noxKind : ℕ
+noxKind = 2
+
+abbrev pub co2Kind : ℕ
+co2Kind = 3
+
+abbrev pub flowKind : ℕ
+flowKind = 4
+
 -- the kind and the value of word j of hour k, both from 0
 
 abbrev pub sheetKind : List ℕ → ℕ → ℕ → ℕ
@@ -42,10 +64,10 @@ unfoldable pub sheetHour : List ℕ → ℕ → SheetHour
 sheetHour sheet k = record {
   hour = sheetValue sheet k 0 / timeSize;
   time = sheetValue sheet k 0 % timeSize;
-  so2 = sheetValue sheet k 1;
-  nox = sheetValue sheet k 2;
-  co2 = sheetValue sheet k 3;
-  scfh = sheetValue sheet k 4;
+  so2 = sheetValue sheet k so2Kind;
+  nox = sheetValue sheet k noxKind;
+  co2 = sheetValue sheet k co2Kind;
+  scfh = sheetValue sheet k flowKind;
   fc = sheetValue sheet k 5;
 }
 

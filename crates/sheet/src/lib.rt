@@ -5,7 +5,7 @@ use layout::Shape;
 ghost use mathlib.Core.Path.{_≡_};
 ghost use Prim.Native.Nat.{_+_, _*_, _≤_, _<_};
 ghost use lib.ListN.{length, getD};
-ghost use Rattle.sheet.specs.Sheet.{wordValue, apart, hourWords, sheetHour, recordedReadings, shapeOf};
+ghost use Rattle.sheet.specs.Sheet.{valueSize, kindSize, wordValue, apart, wordOf, hourWords, sheetHour, recordedReadings, shapeOf};
 ghost use Rattle.sheet.specs.SheetTests.{headingHolds, hourKinds, hourHolds, readingsHold};
 
 // An hour's words: hour and time, SO2, NOx, CO2, flow, Fc.
@@ -13,6 +13,15 @@ pub const HOUR_WORDS: usize = 6;
 
 // A word is its kind times this and its value.
 pub const VALUE_SIZE: u64 = 536870912;
+
+// The kinds of an hour's readings, each the place of its word in the hour.
+pub const SO2_KIND: u64 = 1;
+
+pub const NOX_KIND: u64 = 2;
+
+pub const CO2_KIND: u64 = 3;
+
+pub const FLOW_KIND: u64 = 4;
 
 // The first value of an hour is the hour of the quarter times this and the time.
 pub const TIME_SIZE: u64 = 128;
@@ -43,6 +52,14 @@ pub fn word_apart(word: u32) -> Word
         kind: bits / VALUE_SIZE,
         value: bits % VALUE_SIZE,
     }
+}
+
+// The word of a kind and a value.
+pub fn word_of(kind: u64, value: u64) -> u32
+    requires { ⌜ (kind < kindSize) × (value < valueSize) ⌝ }
+    ensures { λ r. ⌜ r ≡ wordOf kind value ⌝ }
+{
+    (VALUE_SIZE * kind + value) as u32
 }
 
 fn word_value(sheet: &[u32], i: usize) -> u64

@@ -1,4 +1,5 @@
-//! The proved check and writer of quarterly stack reports, and the year to date, for safe Rust. All take any input and never panic.
+//! The proved check and writer of quarterly stack reports, the year to date, and hours from a recorder, for safe Rust. All take any
+//! input and never panic.
 
 use std::fmt;
 
@@ -27,6 +28,17 @@ extern "C" {
         record: *mut u64,
         room: usize,
     ) -> u64;
+
+    /// The call behind [`recorder_words`], for any states and slices of any length: see include/edr.h. `compare/` looks at every element
+    /// that it lends.
+    pub fn edr_recorder_words(
+        states: *const u8,
+        states_length: usize,
+        readings: *const f64,
+        readings_length: usize,
+        answer: *mut u32,
+        room: usize,
+    ) -> u64;
 }
 
 /// The numbers of an answer, and the code with which `edr_check` returns an acceptance.
@@ -36,6 +48,10 @@ const ACCEPTED: u64 = 1;
 /// The numbers of a record of the year to date, and the code with which `edr_year_to_date` returns one.
 const YEAR_LENGTH: usize = 6;
 const JOINED: u64 = 1;
+
+/// The numbers of the answer to an hour from a recorder, and the code with which `edr_recorder_words` returns its words.
+const RECORDER_ANSWER_LENGTH: usize = RECORDER_READINGS + 1;
+const WORDS: u64 = 1;
 
 /// What the check says of a report.
 #[derive(Clone, Copy, Debug, PartialEq, Eq)]
@@ -93,11 +109,52 @@ pub enum Joined {
     Refused(u64),
 }
 
+/// A reading as a recorder hands it over.
+#[derive(Clone, Copy, Debug, PartialEq)]
+pub enum Reading {
+    Measured(f64),
+    Substituted(f64),
+    Absent,
+}
+
+impl Reading {
+    /// Its state for C, and its float, which is not looked at if it is absent.
+    const fn parts(self) -> (u8, f64) {
+        match self {
+            Reading::Measured(float) => (0, float),
+            Reading::Substituted(float) => (1, float),
+            Reading::Absent => (2, 0.0),
+        }
+    }
+}
+
+/// An hour as a recorder hands it over: SO2 and NOx in ppm, CO2 in percent, flow in scfh.
+#[derive(Clone, Copy, Debug, PartialEq)]
+pub struct RecorderHour {
+    pub so2: Reading,
+    pub nox: Reading,
+    pub co2: Reading,
+    pub flow: Reading,
+}
+
+/// What an hour from a recorder gave.
+#[derive(Clone, Copy, Debug, PartialEq, Eq)]
+pub enum Recorded {
+    /// The words of SO2, NOx, CO2 and flow, which stand so in a sheet between those of hour and Fc, and how many readings are
+    /// substituted.
+    Words { words: [u32; RECORDER_READINGS], substituted: u32 },
+    /// The refusal's number, 44 to 46.
+    Refused(u64),
+}
+
 /// The operating hours of the longest quarter.
 pub const MOST_HOURS: usize = 2208;
 
 /// The words of a sheet for an operating hour.
 pub const HOUR_WORDS: usize = 6;
+
+/// The readings of an hour from a recorder.
+pub const RECORDER_READINGS: usize = 4;
 
 /// The bytes of a report of so many operating hours.
 pub const fn report_length(hours: usize) -> usize {
@@ -136,6 +193,11 @@ pub const fn hour_word(hour: u32, time: u32) -> u32 {
     word(Kind::Hour, at_most(MOST_VALUE >> 7, hour) * 128 + at_most(127, time))
 }
 
+/// The value of a word, without its kind.
+pub const fn value(word: u32) -> u32 {
+    word & MOST_VALUE
+}
+
 const fn at_most(most: u32, value: u32) -> u32 {
     if value < most {
         value
@@ -172,6 +234,9 @@ pub const fn meaning(number: u64) -> &'static str {
         41 => "the quarter is not 1 to 4 or not next in the previous record's year, a quarter 0 is not all zeros, or hours pass 2,208 a quarter",
         42 => "a sum of the year passes 9,999,999,999 tenths",
         43 => "the flow is not a whole thousand of scfh",
+        44 => "a reading of the recorder's hour is absent",
+        45 => "a reading of the recorder's hour is negative or not finite",
+        46 => "a reading of the recorder's hour, once rounded, is outside its range or its columns",
         _ => "no refusal has this number",
     }
 }
@@ -236,6 +301,31 @@ pub fn join(previous: YearToDate, year: u64, quarter: u64, answer: Quarter) -> J
     }
 }
 
+/// Makes the words of an hour from a recorder: SO2, NOx and CO2 in tenths, flow to the nearest 1,000 scfh. The exact binary value of
+/// each float is rounded half up: the float 0.15 lies below 0.15 and is recorded as 0.1.
+pub fn recorder_words(hour: RecorderHour) -> Recorded {
+    let parts = [hour.so2, hour.nox, hour.co2, hour.flow].map(Reading::parts);
+    let states = parts.map(|(state, _)| state);
+    let readings = parts.map(|(_, float)| float);
+    let mut answer = [0; RECORDER_ANSWER_LENGTH];
+    // SAFETY: each pointer and length are those of an array that is borrowed for the call.
+    let code = unsafe {
+        edr_recorder_words(
+            states.as_ptr(),
+            states.len(),
+            readings.as_ptr(),
+            readings.len(),
+            answer.as_mut_ptr(),
+            answer.len(),
+        )
+    };
+    let [so2, nox, co2, flow, substituted] = answer;
+    match code {
+        WORDS => Recorded::Words { words: [so2, nox, co2, flow], substituted },
+        _ => Recorded::Refused(answer[0].into()),
+    }
+}
+
 impl fmt::Display for Answer {
     fn fmt(&self, out: &mut fmt::Formatter) -> fmt::Result {
         match self {
@@ -268,6 +358,19 @@ impl fmt::Display for Joined {
         match self {
             Joined::Record(record) => write!(out, "{record}"),
             Joined::Refused(number) => write!(out, "refused {number}"),
+        }
+    }
+}
+
+/// The values of the words, SO2, NOx and CO2 in tenths and flow in scfh, and how many readings are substituted.
+impl fmt::Display for Recorded {
+    fn fmt(&self, out: &mut fmt::Formatter) -> fmt::Result {
+        match self {
+            Recorded::Words { words, substituted } => {
+                let [so2, nox, co2, flow] = words.map(value);
+                write!(out, "recorded {so2} {nox} {co2} {flow} {substituted}")
+            }
+            Recorded::Refused(number) => write!(out, "refused {number}"),
         }
     }
 }

@@ -1,13 +1,16 @@
 //! The wrapper's refusals are those of README.md and of include/edr.h; words too large for a sheet are refused, and flows that are not
-//! whole thousands; quarters join in order and within their limits; README.md shows what the year to date's example prints.
+//! whole thousands; quarters join in order and within their limits; a recorder's readings are rounded by their exact values, and refused
+//! reading by reading; README.md shows what the examples of the year to date and of a recorder's hour print.
 
 use std::collections::BTreeMap;
 
-use edr::{hour_word, word, Joined, Kind, Quarter, Written, YearToDate};
+use edr::Reading::{self, Absent, Measured, Substituted};
+use edr::{hour_word, word, Joined, Kind, Quarter, Recorded, RecorderHour, Written, YearToDate};
 
 const README: &str = include_str!("../../../README.md");
 const HEADER: &str = include_str!("../../../include/edr.h");
 const YEAR_PRINTED: &str = include_str!("../../expected/year_to_date");
+const HOUR_PRINTED: &str = include_str!("../../expected/recorder_hour");
 
 /// Number and meaning of each row of the table of refusals.
 fn rows() -> BTreeMap<u64, &'static str> {
@@ -126,11 +129,124 @@ fn quarters_join_within_their_limits() {
     }
 }
 
+const HOUR: RecorderHour = RecorderHour {
+    so2: Measured(250.0),
+    nox: Measured(200.0),
+    co2: Measured(12.0),
+    flow: Measured(20_000_000.0),
+};
+
+/// What it is recorded as.
+const VALUES: [u32; edr::RECORDER_READINGS] = [2_500, 2_000, 120, 20_000_000];
+
+/// The hour with another reading at a place of SO2, NOx, CO2, flow.
+fn with(place: usize, reading: Reading) -> RecorderHour {
+    let mut hour = HOUR;
+    *[&mut hour.so2, &mut hour.nox, &mut hour.co2, &mut hour.flow][place] = reading;
+    hour
+}
+
+/// The answer of these values, with so many readings substituted.
+fn recorded([so2, nox, co2, flow]: [u32; edr::RECORDER_READINGS], substituted: u32) -> Recorded {
+    let words = [word(Kind::So2, so2), word(Kind::Nox, nox), word(Kind::Co2, co2), word(Kind::Flow, flow)];
+    Recorded::Words { words, substituted }
+}
+
 #[test]
-fn the_readme_shows_lines_of_the_example() {
-    let shown = README.lines().filter_map(|line| line.strip_prefix("    "));
-    let shown = shown.filter(|line| line.starts_with("accepted ") || line.starts_with("year to date "));
-    let shown: Vec<&str> = shown.collect();
-    let printed: Vec<&str> = YEAR_PRINTED.lines().filter(|line| !line.starts_with("written ")).collect();
-    assert!(!shown.is_empty() && printed.starts_with(&shown));
+fn readings_are_rounded_by_their_exact_values() {
+    let ppm = [
+        (0.0, 0),
+        (-0.0, 0),
+        (0_f64.next_up(), 0),
+        (0.05_f64.next_down(), 0),
+        (0.05, 1),
+        (0.15, 1),
+        (0.25, 3),
+        (9_999.95_f64.next_down(), 99_999),
+    ];
+    let percent = [(0.05, 1), (0.15, 1), (12.25, 123), (100.0, 1_000), (100.05, 1_000)];
+    let scfh = [
+        (0.0, 0),
+        (-0.0, 0),
+        (500_f64.next_down(), 0),
+        (500.0, 1_000),
+        (20_000_500.0, 20_001_000),
+        (500_000_499.9, 500_000_000),
+    ];
+    for (place, readings) in [&ppm[..], &ppm, &percent, &scfh].into_iter().enumerate() {
+        for &(reading, value) in readings {
+            let mut values = VALUES;
+            values[place] = value;
+            for (reading, substituted) in [(Measured(reading), 0), (Substituted(reading), 1)] {
+                let hour = with(place, reading);
+                assert_eq!(edr::recorder_words(hour), recorded(values, substituted), "{hour:?}");
+            }
+        }
+    }
+}
+
+#[test]
+fn substituted_readings_are_counted() {
+    let mut hour = HOUR;
+    assert_eq!(edr::recorder_words(hour), recorded(VALUES, 0));
+    hour.nox = Substituted(200.0);
+    assert_eq!(edr::recorder_words(hour), recorded(VALUES, 1));
+    hour.flow = Substituted(20_000_000.0);
+    assert_eq!(edr::recorder_words(hour), recorded(VALUES, 2));
+    hour.so2 = Substituted(250.0);
+    assert_eq!(edr::recorder_words(hour), recorded(VALUES, 3));
+    hour.co2 = Substituted(12.0);
+    assert_eq!(edr::recorder_words(hour), recorded(VALUES, 4));
+    assert_eq!(edr::recorder_words(hour).to_string(), "recorded 2500 2000 120 20000000 4");
+}
+
+#[test]
+fn readings_are_refused_each_by_itself() {
+    let least_too_large = [9_999.95, 9_999.95, 100.05_f64.next_up(), 500_000_500.0];
+    for (place, too_large) in least_too_large.into_iter().enumerate() {
+        let refused = [
+            (Absent, 44),
+            (Measured(-1.0), 45),
+            (Measured((-0.0_f64).next_down()), 45),
+            (Measured(f64::NAN), 45),
+            (Measured(-f64::NAN), 45),
+            (Measured(f64::INFINITY), 45),
+            (Measured(f64::NEG_INFINITY), 45),
+            (Substituted(-1.0), 45),
+            (Measured(too_large), 46),
+            (Substituted(too_large), 46),
+            (Measured(f64::MAX), 46),
+        ];
+        for (reading, number) in refused {
+            let hour = with(place, reading);
+            assert_eq!(edr::recorder_words(hour), Recorded::Refused(number), "{hour:?}");
+        }
+    }
+    for co2 in [0.0, -0.0, 0.05_f64.next_down()] {
+        let hour = RecorderHour { co2: Measured(co2), ..HOUR };
+        assert_eq!(edr::recorder_words(hour), Recorded::Refused(46), "{co2}");
+    }
+}
+
+#[test]
+fn the_first_reading_that_is_refused_counts() {
+    let refused = [
+        (RecorderHour { so2: Measured(-1.0), nox: Absent, ..HOUR }, 45),
+        (RecorderHour { so2: Measured(10_000.0), nox: Absent, co2: Measured(-1.0), ..HOUR }, 46),
+        (RecorderHour { nox: Absent, co2: Measured(f64::NAN), flow: Measured(1e9), ..HOUR }, 44),
+        (RecorderHour { co2: Measured(0.0), flow: Absent, ..HOUR }, 46),
+    ];
+    for (hour, number) in refused {
+        assert_eq!(edr::recorder_words(hour), Recorded::Refused(number), "{hour:?}");
+    }
+}
+
+#[test]
+fn the_readme_shows_lines_of_the_examples() {
+    for (start, printed) in [("    year to date ", YEAR_PRINTED), ("    recorded ", HOUR_PRINTED)] {
+        let block = README.split("\n\n").find(|block| block.lines().any(|line| line.starts_with(start)));
+        let shown: Vec<&str> = block.into_iter().flat_map(str::lines).map(str::trim_start).collect();
+        let printed: Vec<&str> = printed.lines().filter(|line| !line.starts_with("written ")).collect();
+        assert!(!shown.is_empty() && printed.starts_with(&shown), "{start}");
+    }
 }

@@ -4,7 +4,7 @@
 //! Hours and the three sums are the amounts of a quarter: a record has them
 //! behind its year and quarter, an answer before its mean.
 
-use super::family_of;
+use super::{distinct, family_of};
 use crate::random::Random;
 use crate::year_to_date::{join, Outcome, ANSWER, MOST_HOURS, MOST_SUM, RECORD};
 
@@ -71,12 +71,6 @@ fn up_to(random: &mut Random, high: u64) -> u64 {
 
 fn spread(random: &mut Random, high: u64) -> u64 {
     random.spread(high.into()) as u64
-}
-
-/// So many numbers, no two of them alike.
-fn distinct(random: &mut Random, count: usize) -> Vec<u64> {
-    let (first, step) = (random.bits(), random.bits() | 1);
-    (0..count as u64).map(|place| first.wrapping_add(place.wrapping_mul(step))).collect()
 }
 
 /// A year of any size.
