@@ -1,7 +1,8 @@
-//! Fresh cases of the second implementation's maker, answered by the proved library and by the second implementation. Prints each
-//! case whose answers differ, and at the end how many cases there were and how many differ.
+//! Fresh cases of the second implementation's maker, and sheets for all sizes of written numbers, answered by the proved library and
+//! by the second implementation. Prints each case whose answers differ, and at the end how many cases there were and how many differ.
 
 mod float_hours;
+mod written_numbers;
 mod years;
 
 use std::fmt::Display;
@@ -90,9 +91,10 @@ fn kind(case: &Case) -> &'static str {
     }
 }
 
-/// Compares all cases of a seed and returns how many differ.
+/// Compares all cases of a seed, and those that all seeds have, and returns how many differ.
 fn compare(seed: u64, count: usize) -> usize {
-    let cases = generate::cases(seed, count);
+    let mut cases = generate::cases(seed, count);
+    cases.extend(written_numbers::cases());
     let joinings = generate::years(seed, count);
     let hours = generate::float_hours(seed, count);
     let mut comparing = Comparing::default();

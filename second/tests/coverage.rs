@@ -1,7 +1,11 @@
 //! What the cases of a seed contain: every answer often enough, in any hour,
 //! and the same bytes each time.
 
-use second::cases::{decode, Answering, Case};
+#[path = "support/numbers.rs"]
+mod numbers;
+
+use numbers::{every_size, numbers, sizes_in, Name, Size};
+use second::cases::{decode, Answering, Case, FILL};
 use second::check::{check, Answer, Fault};
 use second::figures::{Figure, Readings};
 use second::generate::{cases, tight};
@@ -285,4 +289,70 @@ fn hours_without_flow() {
     // A CO2 figure of such an hour is always 0.
     assert!(passed[0] >= 20 && passed[1] >= 20 && passed[3] == 0, "{passed:?}");
     assert!([0, 1, 3].iter().all(|&index| past[index] >= 8), "{past:?}");
+}
+
+/// The written reports of seed 1, each with the bytes of its buffer behind it.
+fn written() -> impl Iterator<Item = (Vec<u8>, Vec<u8>)> {
+    CASES.iter().filter_map(|case| match case {
+        Case::Write { order, room } => {
+            let mut report = vec![FILL; *room];
+            let length = write(order, &mut report).ok()?;
+            let behind = report.split_off(length);
+            Some((report, behind))
+        }
+        _ => None,
+    })
+}
+
+/// Sizes in which no number is written here; `compare/` has them written.
+const MISSING: [(Name, Size); 6] = [
+    (Name::Date, Size::Largest),
+    (Name::So2Total, Size::Digits(6)),
+    (Name::Co2Total, Size::Largest),
+    (Name::Co2Total, Size::Digits(8)),
+    (Name::HeatTotal, Size::Digits(9)),
+    (Name::Co2Rate, Size::Largest),
+];
+
+/// Every number is written at its least, at its largest and with each number of
+/// digits, but for these.
+#[test]
+fn sizes_of_written_numbers() {
+    let mut times: BTreeMap<(Name, Size), usize> = every_size().into_iter().map(|size| (size, 0)).collect();
+    for size in written().flat_map(|(report, _)| sizes_in(&report)) {
+        *times.get_mut(&size).expect("a size that there can be") += 1;
+    }
+    times.retain(|_, times| *times == 0);
+    assert_eq!(times.into_keys().collect::<Vec<_>>(), MISSING);
+}
+
+/// The columns of CO2 and of three totals hold more than there can be: a larger
+/// CO2 figure has too large a heat beside it, and no quarter has more hours.
+#[test]
+fn largest_figures_and_totals() {
+    for (name, largest) in [
+        (Name::Heat, 999_999),
+        (Name::So2Rate, 999_999),
+        (Name::NoxRate, 99_999),
+        (Name::Co2Rate, 171_000),
+        (Name::So2Total, 1_103_999),
+        (Name::Co2Total, 377_568_000),
+        (Name::HeatTotal, 2_207_997_792),
+        (Name::NoxMean, 99_999),
+    ] {
+        let number = numbers().into_iter().find(|number| number.name == name);
+        assert_eq!(number.and_then(|number| number.ends().pop()), Some(largest), "{name:?}");
+    }
+}
+
+/// Buffers as long as the report, one byte longer, and longer by more; the bytes
+/// behind the report are as they were.
+#[test]
+fn rooms_of_written_reports() {
+    let mut rooms = [0; 3];
+    for (_, behind) in written() {
+        rooms[behind.len().min(2)] += 1;
+        assert!(behind.iter().all(|&byte| byte == FILL));
+    }
+    assert!(rooms[0] >= 100 && rooms[1] >= 25 && rooms[2] >= 40, "{rooms:?}");
 }

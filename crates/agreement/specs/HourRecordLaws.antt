@@ -7,10 +7,12 @@ use lib.ListN.{length}
 use borrow.Author.Tests.{le-leb}
 use Rattle.columns.specs.BytesLaws.{same-eq}
 use Rattle.columns.specs.Columns.{columns, put}
-use Rattle.columns.specs.ColumnsLaws.{put-length, columns-before, columns-back}
+use Rattle.columns.specs.ColumnsLaws.{columns-before, columns-back}
 use Rattle.columns.specs.Number.{numberOf}
 use Rattle.columns.specs.Written.{digitsOf}
-use Rattle.columns.specs.WrittenLaws.{digits-length, read-digits-written}
+use Rattle.columns.specs.WrittenLaws.{digits-length}
+use Rattle.columns.specs.Rewritten.{DigitsWritten}
+use Rattle.columns.specs.RewrittenLaws.{digits-written}
 use Rattle.calendar.specs.Calendar.{hoursInQuarter}
 use Rattle.calendar.specs.declared.QuarterHour.the-variants.{At}
 use Rattle.layout.specs.Layout.{lengthOf, stackWidth, dateColumn, dateWidth, yearDigits, quarterDigit, valuesOf, Within}
@@ -58,33 +60,31 @@ module _ (year quarter : ℕ) (name : List ℕ) (g : Heading year quarter name) 
       (framed-put Facility name (yearDigits .start) (digitsOf (yearDigits .width) year) (headed Facility name) (omega arith) (omega arith)
       (framed-headed Facility name named))
 
+  -- year and quarter are written into it, one after the other
+  abbrev withYear : List ℕ
+  withYear = put (yearDigits .start) (digitsOf (yearDigits .width) year) (headed Facility name)
+
+  year-written : DigitsWritten (yearDigits .start) (yearDigits .width) year (headed Facility name) withYear
+  year-written =
+      digits-written (yearDigits .start) (yearDigits .width) (headed Facility name) (omega (arith, framed-headed Facility name named .long)) year
+
+  with-year-long : length withYear ≡ lengthOf Facility
+  with-year-long = year-written .only .long ∙ framed-headed Facility name named .long
+
+  quarter-written : DigitsWritten (quarterDigit .start) (quarterDigit .width) quarter withYear facility
+  unfolding facilityRecord
+  quarter-written = digits-written (quarterDigit .start) (quarterDigit .width) withYear (omega (arith, with-year-long)) quarter
+
   year-read : digitsIn yearDigits facility ≡ year
   unfolding digitsIn numberOf facilityRecord
   year-read =
-      let h = framed-headed Facility name named in
-      let y = digits-length (yearDigits .width) year in
-      let q = digits-length (quarterDigit .width) quarter in
-      let bs = digitsOf (yearDigits .width) year in
-      let line = put (yearDigits .start) bs (headed Facility name) in
-      let a : yearDigits .start - 1 + length bs ≤ length (headed Facility name) = rw (h .long) (omega arith) in
-      let m = put-length (yearDigits .start) bs (headed Facility name) a in
-      let b : quarterDigit .start - 1 + length (digitsOf (quarterDigit .width) quarter) ≤ length line = omega (arith, h .long) in
-      rw (columns-before (quarterDigit .start) (digitsOf (quarterDigit .width) quarter) line b (yearDigits .start) (yearDigits .width) (omega arith)
-      ∙ columns-back (yearDigits .start) (yearDigits .width) bs (headed Facility name) y (omega (arith, h .long)))
-      (ap numberOf (read-digits-written (yearDigits .width) year (omega (arith, g .yearWithin .most))))
+      rw (columns-before (quarterDigit .start) (digitsOf (quarterDigit .width) quarter) withYear (omega (arith, quarter-written .wide, with-year-long))
+      (yearDigits .start) (yearDigits .width) (omega arith))
+      (ap numberOf (year-written .back .0 (omega (arith, g .yearWithin .most))))
 
   quarter-read : digitsIn quarterDigit facility ≡ quarter
-  unfolding digitsIn numberOf facilityRecord
-  quarter-read =
-      let h = framed-headed Facility name named in
-      let y = digits-length (yearDigits .width) year in
-      let q = digits-length (quarterDigit .width) quarter in
-      let bs = digitsOf (yearDigits .width) year in
-      let line = put (yearDigits .start) bs (headed Facility name) in
-      let a : yearDigits .start - 1 + length bs ≤ length (headed Facility name) = rw (h .long) (omega arith) in
-      let m = put-length (yearDigits .start) bs (headed Facility name) a in
-      rw (columns-back (quarterDigit .start) (quarterDigit .width) (digitsOf (quarterDigit .width) quarter) line q (omega (arith, h .long)))
-      (ap numberOf (read-digits-written (quarterDigit .width) quarter (omega (arith, g .isQuarter .most))))
+  unfolding digitsIn numberOf
+  quarter-read = ap numberOf (quarter-written .back .0 (omega (arith, g .isQuarter .most)))
 
   facility-right : facilityFault facility ≡ 0
   unfolding facilityFault

@@ -14,7 +14,9 @@ use Rattle.columns.specs.Columns.{columns, put}
 use Rattle.columns.specs.ColumnsLaws.{put-length, columns-before, columns-back}
 use Rattle.columns.specs.Number.{fieldOf, digitsHeld, fewestColumns}
 use Rattle.columns.specs.Written.{written}
-use Rattle.columns.specs.WrittenLaws.{digits-length, written-length, read-written}
+use Rattle.columns.specs.WrittenLaws.{digits-length}
+use Rattle.columns.specs.Rewritten.{NumberWritten}
+use Rattle.columns.specs.RewrittenLaws.{number-written}
 use Rattle.columns.specs.declared.Field.the-variants.{Number}
 use Rattle.exact.specs.Logic.{both}
 use Rattle.layout.specs.Layout.{codeOf, lengthOf, typeStart, typeWidth, typeDigits, stackStart, stackWidth, dateColumn, dateWidth, valuesOf, noValue}
@@ -123,6 +125,11 @@ ValuesWithin [] (x ∷ xs) = ⊥
 ValuesWithin (v ∷ vs) [] = ⊥
 ValuesWithin (v ∷ vs) (x ∷ xs) = Within v x × ValuesWithin vs xs
 
+-- a number is written into its value's columns
+value-written : {from long : ℕ} (v : Value) (x : ℕ) (line : List ℕ) → InColumns from long v → length line ≡ long →
+    NumberWritten (v .start) (v .width) (v .decimals) x line (put (v .start) (written (v .width) (v .decimals) x) line)
+value-written v x line c l = number-written (v .start) (v .width) line (omega (arith, c .named, c .last)) (v .decimals) x (c .room)
+
 -- columns in front of the values stay as they were
 pub valued-before : (from long : ℕ) (vs : List Value) (xs line : List ℕ) (start width : ℕ) → Ordered from long vs → length line ≡ long →
     start - 1 + width ≤ from →
@@ -131,11 +138,10 @@ unfolding valued
 valued-before from long [] xs line start width o l b = refl
 valued-before from long (v ∷ vs) [] line start width o l b = refl
 valued-before from long (v ∷ vs) (x ∷ xs) line start width o l b =
-    let w = written-length (v .width) (v .decimals) x (o .0 .room) in
+    let w = value-written v x line (o .0) l in
     let bs = written (v .width) (v .decimals) x in
-    let r : v .start - 1 + length bs ≤ length line = omega (arith, o .0 .last) in
-    valued-before (v .start - 1 + v .width) long vs xs (put (v .start) bs line) start width (o .1) (put-length (v .start) bs line r ∙ l)
-    (omega (arith, o .0 .first))
+    let r : v .start - 1 + length bs ≤ length line = omega (arith, w .wide, o .0 .last) in
+    valued-before (v .start - 1 + v .width) long vs xs (put (v .start) bs line) start width (o .1) (w .only .long ∙ l) (omega (arith, o .0 .first))
     ∙ columns-before (v .start) bs line r start width (omega (arith, o .0 .first))
 
 -- each number is read back
@@ -146,20 +152,14 @@ unfolding valued
 valued-field from long [] xs line d i o l a h = absurd (not-suc-le-zero h)
 valued-field from long (v ∷ vs) [] line d i o l a h = absurd a
 valued-field from long (v ∷ vs) (x ∷ xs) line d zero o l a h =
-    let w = written-length (v .width) (v .decimals) x (o .0 .room) in
-    let bs = written (v .width) (v .decimals) x in
-    let r : v .start - 1 + length bs ≤ length line = omega (arith, o .0 .last) in
-    let z : v .start - 1 + v .width ≤ length line = omega (arith, o .0 .last) in
-    ap (fieldOf (v .decimals))
-    (valued-before (v .start - 1 + v .width) long vs xs (put (v .start) bs line) (v .start) (v .width) (o .1) (put-length (v .start) bs line r ∙ l)
-    (omega arith)
-    ∙ columns-back (v .start) (v .width) bs line w z)
-    ∙ read-written (v .width) (v .decimals) x (o .0 .room) (lt-of-le-of-lt (a .0 .most) (o .0 .most))
+    let w = value-written v x line (o .0) l in
+    let then = put (v .start) (written (v .width) (v .decimals) x) line in
+    ap (fieldOf (v .decimals)) (valued-before (v .start - 1 + v .width) long vs xs then (v .start) (v .width) (o .1) (w .only .long ∙ l) (omega arith))
+    ∙ w .back .0 (lt-of-le-of-lt (a .0 .most) (o .0 .most))
 valued-field from long (v ∷ vs) (x ∷ xs) line d (suc i) o l a h =
-    let w = written-length (v .width) (v .decimals) x (o .0 .room) in
-    let bs = written (v .width) (v .decimals) x in
-    let r : v .start - 1 + length bs ≤ length line = omega (arith, o .0 .last) in
-    valued-field (v .start - 1 + v .width) long vs xs (put (v .start) bs line) d i (o .1) (put-length (v .start) bs line r ∙ l) (a .1) (le-of-suc-le-suc h)
+    let w = value-written v x line (o .0) l in
+    let then = put (v .start) (written (v .width) (v .decimals) x) line in
+    valued-field (v .start - 1 + v .width) long vs xs then d i (o .1) (w .only .long ∙ l) (a .1) (le-of-suc-le-suc h)
 
 -- fields that hold numbers in their ranges have no fault
 fields-right : (vs : List Value) (xs line : List ℕ) (d : Value) → ValuesWithin vs xs →
@@ -184,10 +184,10 @@ unfolding valued
 framed-values t name from [] xs line o h = h
 framed-values t name from (v ∷ vs) [] line o h = h
 framed-values t name from (v ∷ vs) (x ∷ xs) line o h =
-    let w = written-length (v .width) (v .decimals) x (o .0 .room) in
+    let w = value-written v x line (o .0) (h .long) in
     let bs = written (v .width) (v .decimals) x in
     framed-values t name (v .start - 1 + v .width) vs xs (put (v .start) bs line) (o .1)
-    (framed-put t name (v .start) bs line (o .0 .named) (omega (arith, o .0 .last)) h)
+    (framed-put t name (v .start) bs line (o .0 .named) (omega (arith, w .wide, o .0 .last)) h)
 
 pub framed-valued : (t : RecordType) (name xs line : List ℕ) → Framed t name line → Framed t name (valued (valuesOf t) xs line)
 framed-valued t name xs line h = framed-values t name (frontColumns t) (valuesOf t) xs line (ordered t) h

@@ -2,9 +2,10 @@
 use Prim.Native.Nat.{ℕ}
 use mathlib.Core.Path.{_≡_, refl}
 use mathlib.Core.List.{List, [], _∷_, map}
+use lib.ListN.{replicate}
 use Rattle.columns.specs.Bytes.{all}
-use Rattle.columns.specs.Columns.{put}
-use Rattle.columns.specs.Number.{digitsFrom, wholeOf, decimalsBehind, fixedOf, fieldOf}
+use Rattle.columns.specs.Columns.{columns, put}
+use Rattle.columns.specs.Number.{digitsFrom, digitsOnly, wholeOf, decimalsBehind, fixedOf, fieldOf}
 use Rattle.columns.specs.Written.{digitsOf, digitOrBlank, leading, wholeWritten, fixedWritten, written}
 use Rattle.columns.specs.declared.Field.{Field}
 use Rattle.columns.specs.declared.Field.the-variants.{Blank, Malformed, Number}
@@ -54,3 +55,45 @@ stands = refl
 puts : put 3 (97 ∷ 98 ∷ []) (49 ∷ 50 ∷ 51 ∷ 52 ∷ 53 ∷ []) ≡ 49 ∷ 50 ∷ 97 ∷ 98 ∷ 53 ∷ []
 unfolding put
 puts = refl
+
+-- bytes put into columns 3 to 8 of ten dashes: what reads them, the line afterwards, and what is then read from the columns
+record WrittenRow : Type 0 where
+  read : List ℕ → Field
+  bytes : List ℕ
+  line : List ℕ
+  holds : Field
+
+writtenRow : (List ℕ → Field) → List ℕ → Field → List ℕ → WrittenRow
+writtenRow read bs f line = record { read = read; bytes = bs; line = line; holds = f }
+
+numberRow : ℕ → ℕ → Field → List ℕ → WrittenRow
+numberRow d v = writtenRow (fieldOf d) (written 6 d v)
+
+digitsRow : ℕ → Field → List ℕ → WrittenRow
+digitsRow v = writtenRow digitsOnly (digitsOf 6 v)
+
+-- F.1: 12.3, 0.0, 1000.5, the largest number that six columns hold, and one too large: its last digits stand, and it is not read back;
+-- format I: 0, the largest, one too large; digits only: 123, 0, the largest, one too large
+writtenTable : List WrittenRow
+writtenTable =
+    numberRow 1 123 (Number 123) (45 ∷ 45 ∷ 32 ∷ 32 ∷ 49 ∷ 50 ∷ 46 ∷ 51 ∷ 45 ∷ 45 ∷ [])
+    ∷ numberRow 1 0 (Number 0) (45 ∷ 45 ∷ 32 ∷ 32 ∷ 32 ∷ 48 ∷ 46 ∷ 48 ∷ 45 ∷ 45 ∷ [])
+    ∷ numberRow 1 10005 (Number 10005) (45 ∷ 45 ∷ 49 ∷ 48 ∷ 48 ∷ 48 ∷ 46 ∷ 53 ∷ 45 ∷ 45 ∷ [])
+    ∷ numberRow 1 99999 (Number 99999) (45 ∷ 45 ∷ 57 ∷ 57 ∷ 57 ∷ 57 ∷ 46 ∷ 57 ∷ 45 ∷ 45 ∷ [])
+    ∷ numberRow 1 123456 (Number 23456) (45 ∷ 45 ∷ 50 ∷ 51 ∷ 52 ∷ 53 ∷ 46 ∷ 54 ∷ 45 ∷ 45 ∷ [])
+    ∷ numberRow 0 0 (Number 0) (45 ∷ 45 ∷ 32 ∷ 32 ∷ 32 ∷ 32 ∷ 32 ∷ 48 ∷ 45 ∷ 45 ∷ [])
+    ∷ numberRow 0 999999 (Number 999999) (45 ∷ 45 ∷ 57 ∷ 57 ∷ 57 ∷ 57 ∷ 57 ∷ 57 ∷ 45 ∷ 45 ∷ [])
+    ∷ numberRow 0 1000000 (Number 0) (45 ∷ 45 ∷ 48 ∷ 48 ∷ 48 ∷ 48 ∷ 48 ∷ 48 ∷ 45 ∷ 45 ∷ [])
+    ∷ digitsRow 123 (Number 123) (45 ∷ 45 ∷ 48 ∷ 48 ∷ 48 ∷ 49 ∷ 50 ∷ 51 ∷ 45 ∷ 45 ∷ [])
+    ∷ digitsRow 0 (Number 0) (45 ∷ 45 ∷ 48 ∷ 48 ∷ 48 ∷ 48 ∷ 48 ∷ 48 ∷ 45 ∷ 45 ∷ [])
+    ∷ digitsRow 999999 (Number 999999) (45 ∷ 45 ∷ 57 ∷ 57 ∷ 57 ∷ 57 ∷ 57 ∷ 57 ∷ 45 ∷ 45 ∷ [])
+    ∷ digitsRow 1234567 (Number 234567) (45 ∷ 45 ∷ 50 ∷ 51 ∷ 52 ∷ 53 ∷ 54 ∷ 55 ∷ 45 ∷ 45 ∷ [])
+    ∷ []
+
+rewrites : map (λ r. put 3 (r .bytes) (replicate 10 45)) writtenTable ≡ map (λ r. r .line) writtenTable
+unfolding writtenRow numberRow digitsRow writtenTable put digitsOf digitOrBlank leading wholeWritten fixedWritten written
+rewrites = refl
+
+reads-back : map (λ r. (r .read) (columns 3 6 (r .line))) writtenTable ≡ map (λ r. r .holds) writtenTable
+unfolding writtenRow numberRow digitsRow writtenTable columns all digitsFrom wholeOf decimalsBehind fixedOf fieldOf
+reads-back = refl

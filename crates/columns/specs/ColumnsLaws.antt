@@ -16,6 +16,11 @@ pub columns-length : (start width : ℕ) (l : List ℕ) → start - 1 + width �
 unfolding columns
 columns-length start width l h = length-take-le width (drop (start - 1) l) (simp length-drop (omega arith))
 
+-- their bytes are the line's
+pub columns-byte : (start width : ℕ) (l : List ℕ) (j : ℕ) → j < width → getD l (start - 1 + j) 0 ≡ getD (columns start width l) j 0
+unfolding columns
+columns-byte start width l j h = sym (getD-drop (start - 1) l j 0) ∙ sym (getD-take width (drop (start - 1) l) j 0 h)
+
 -- a part to the end
 pub part-end : (i : ℕ) (l : List ℕ) → take (length l - i) (drop i l) ≡ drop i l
 part-end i l = take-all (length l - i) (drop i l) (rw length-drop (omega arith))
@@ -88,11 +93,7 @@ module _ (start : ℕ) (bs l : List ℕ) (fits : start - 1 + length bs ≤ lengt
       ∙ ap (λ (k : ℕ). getD l k 0) (add-zero i)
 
   pub put-inside : (j : ℕ) → j < length bs → getD (put start bs l) (start - 1 + j) 0 ≡ getD bs j 0
-  unfolding columns
-  put-inside j h =
-      sym (getD-drop (start - 1) (put start bs l) j 0)
-      ∙ sym (getD-take (length bs) (drop (start - 1) (put start bs l)) j 0 h)
-      ∙ ap (λ (x : List ℕ). getD x j 0) columns-put
+  put-inside j h = columns-byte start (length bs) (put start bs l) j h ∙ ap (λ (x : List ℕ). getD x j 0) columns-put
 
   -- bytes behind bytes are put as one
   pub put-beside : (cs : List ℕ) → 1 ≤ start → put (start + length bs) cs (put start bs l) ≡ put start (bs ++ cs) l

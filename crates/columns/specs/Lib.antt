@@ -3,7 +3,9 @@ pub mod Bytes
 pub mod Columns
 pub mod Number
 pub mod Written
+pub mod Rewritten
 pub mod BytesLaws
 pub mod ColumnsLaws
 pub mod NumberLaws
 pub mod WrittenLaws
+pub mod RewrittenLaws

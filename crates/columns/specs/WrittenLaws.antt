@@ -11,12 +11,10 @@ use lib.ListN.{length, length-append}
 use lib.Seq.{take-at, drop-at}
 use borrow.Author.Tests.{ne-eqb, le-leb}
 use Rattle.columns.specs.Bytes.{isBlank, isDigit, isPrintable, all}
-use Rattle.columns.specs.Columns.{columns, put}
 use Rattle.columns.specs.Number.{digitsFrom, digitsOnly, wholeOf, decimalsBehind, fixedOf, fieldOf, digitsHeld, fewestColumns}
 use Rattle.columns.specs.Written.{lastDigit, digitOrBlank, digitsOf, leading, wholeWritten, fixedWritten, written}
 use Rattle.columns.specs.BytesLaws.{all-append, all-snoc, all-cons, all-weaken, digit-printable}
-use Rattle.columns.specs.ColumnsLaws.{columns-back}
-use Rattle.columns.specs.NumberLaws.{digits-never-blank}
+use Rattle.columns.specs.NumberLaws.{digits-bound, field-bound, digits-never-blank}
 use Rattle.columns.specs.declared.Field.{Field}
 use Rattle.columns.specs.declared.Field.the-variants.{Blank, Malformed, Number}
 
@@ -133,6 +131,10 @@ read-digits-written w v h =
     let e : v / 10 ^ w ≡ 0 = div-eq-of-lt h in
     rw e at (digits-behind w v)
 
+-- and one that they do not hold is not
+pub digits-fit : (w v : ℕ) → digitsOnly (digitsOf w v) ≡ Number v → v < 10 ^ w
+digits-fit w v e = omega (arith, rw (digits-length w v) at (digits-bound 0 (digitsOf w v) v e))
+
 -- what blanks and digits with no needless zero in front are read as
 lead : ℕ → Field
 lead zero = Blank
@@ -208,10 +210,6 @@ unfolding fieldOf written
 read-written width zero v r h = whole-back width v r h
 read-written width (suc d) v r h = fixed-back width (suc d) v r h
 
--- and from the line that it was put into
-module _ (start width v : ℕ) (l : List ℕ) (inside : start - 1 + width ≤ length l) where
-  pub read-put : (d : ℕ) → fewestColumns d ≤ width → v < 10 ^ digitsHeld d width → fieldOf d (columns start width (put start (written width d v) l)) ≡ Number v
-  read-put d r h = ap (fieldOf d) (columns-back start width (written width d v) l (written-length width d v r) inside) ∙ read-written width d v r h
-
-  pub read-digits-put : v < 10 ^ width → digitsOnly (columns start width (put start (digitsOf width v) l)) ≡ Number v
-  read-digits-put h = ap digitsOnly (columns-back start width (digitsOf width v) l (digits-length width v) inside) ∙ read-digits-written width v h
+-- and one that they do not hold is not
+pub written-fits : (width d v : ℕ) → fewestColumns d ≤ width → fieldOf d (written width d v) ≡ Number v → v < 10 ^ digitsHeld d width
+written-fits width d v r e = rw (written-length width d v r) at (field-bound d (written width d v) v e)

@@ -173,7 +173,7 @@ valueAt t i = getD (valuesOf t) i noValue
 
 -- the numbers of a row, as the code has them
 abbrev pub rowOf : RecordType → Row
-rowOf t = record { digits = typeDigits t; length = lengthOf t; date = dateColumn t; run = recordOf t .run; values = valueCount t }
+rowOf t = record { code = codeOf t; digits = typeDigits t; length = lengthOf t; date = dateColumn t; run = recordOf t .run; values = valueCount t }
 
 -- the place of a type in the order, found by its code
 abbrev pub placeOf : ℕ → List RecordType → ℕ

@@ -5,7 +5,7 @@ ghost use lib.ListN.{length};
 ghost use Rattle.calendar.specs.Calendar.{mostHours};
 ghost use Rattle.layout.specs.Lead.{leadBy, leadOf};
 ghost use Rattle.layout.specs.Layout.{inRange, wholeSteps, within, Within, flowScfh, thousandsOf, scfhOf};
-ghost use Rattle.layout.specs.Layout.{typeDigits, lengthOf, dateColumn, rowOf, countOf, order, typeAt};
+ghost use Rattle.layout.specs.Layout.{codeOf, typeDigits, lengthOf, dateColumn, rowOf, countOf, order, typeAt};
 ghost use Rattle.layout.specs.Layout.{frontOf, lineOf, offsetOf, reportLength, Held, valueCount, valueAt};
 
 // Every line has its type and its stack name.
@@ -136,8 +136,10 @@ struct Lead {
     hourly: Front,
 }
 
-// A type's digits, the length of its line without byte 10, where date and hour start (0 where it has none), its run of lines, how many values it has.
+// A type's code, which is written, and its digits, which are compared; the length of its line without byte 10, where date and hour start (0 where it has
+// none), its run of lines, how many values it has.
 pub struct Row {
+    pub code: u64,
     pub digits: [u8; TYPE_WIDTH],
     pub length: usize,
     pub date: usize,
@@ -150,6 +152,7 @@ pub fn row_of(t: RecordType) -> Row
 {
     match t {
         RecordType::Facility => Row {
+            code: 100,
             digits: [b'1', b'0', b'0'],
             length: FACILITY_LENGTH,
             date: 0,
@@ -157,6 +160,7 @@ pub fn row_of(t: RecordType) -> Row
             values: 0,
         },
         RecordType::So2Concentration => Row {
+            code: 200,
             digits: [b'2', b'0', b'0'],
             length: SO2_LENGTH,
             date: SO2_DATE,
@@ -164,6 +168,7 @@ pub fn row_of(t: RecordType) -> Row
             values: 1,
         },
         RecordType::NoxConcentration => Row {
+            code: 201,
             digits: [b'2', b'0', b'1'],
             length: 34,
             date: 16,
@@ -171,6 +176,7 @@ pub fn row_of(t: RecordType) -> Row
             values: 1,
         },
         RecordType::Co2Concentration => Row {
+            code: 202,
             digits: [b'2', b'0', b'2'],
             length: 34,
             date: 16,
@@ -178,6 +184,7 @@ pub fn row_of(t: RecordType) -> Row
             values: 1,
         },
         RecordType::VolumetricFlow => Row {
+            code: 220,
             digits: [b'2', b'2', b'0'],
             length: 48,
             date: 16,
@@ -185,6 +192,7 @@ pub fn row_of(t: RecordType) -> Row
             values: 1,
         },
         RecordType::Operation => Row {
+            code: 300,
             digits: [b'3', b'0', b'0'],
             length: 42,
             date: 10,
@@ -192,6 +200,7 @@ pub fn row_of(t: RecordType) -> Row
             values: 2,
         },
         RecordType::QuarterTotals => Row {
+            code: 301,
             digits: [b'3', b'0', b'1'],
             length: 48,
             date: 0,
@@ -199,6 +208,7 @@ pub fn row_of(t: RecordType) -> Row
             values: 4,
         },
         RecordType::So2Mass => Row {
+            code: 310,
             digits: [b'3', b'1', b'0'],
             length: 34,
             date: 10,
@@ -206,6 +216,7 @@ pub fn row_of(t: RecordType) -> Row
             values: 1,
         },
         RecordType::NoxRate => Row {
+            code: 320,
             digits: [b'3', b'2', b'0'],
             length: 54,
             date: 13,
@@ -213,6 +224,7 @@ pub fn row_of(t: RecordType) -> Row
             values: 2,
         },
         RecordType::Co2Mass => Row {
+            code: 330,
             digits: [b'3', b'3', b'0'],
             length: 24,
             date: 10,
@@ -522,7 +534,14 @@ pub fn value_at(t: RecordType, i: usize) -> Value
 
 // One column of the row each.
 
-// The three bytes of a type.
+// The number of a type.
+pub fn type_code(t: RecordType) -> u64
+    ensures { λ r. ⌜ r ≡ codeOf t ⌝ }
+{
+    row_of(t).code
+}
+
+// Its three bytes.
 pub fn type_digits(t: RecordType) -> [u8; TYPE_WIDTH]
     ensures { λ r. ⌜ r ≡ typeDigits t ⌝ }
 {

@@ -20,8 +20,12 @@ fn write_heading(line: &mut [u8], name: &[u8], t: RecordType)
     ensures { λ _. ⌜ now (line .exit) ≡ headed t (now (name .entry)) ⌝ }
 {
     filling::fill_with(line, 32);
-    let digits = layout::type_digits(t);
-    filling::write_bytes(line, layout::TYPE_START, &digits);
+    filling::write_digits(
+        line,
+        layout::TYPE_START,
+        layout::TYPE_WIDTH,
+        layout::type_code(t),
+    );
     filling::write_bytes(line, layout::STACK_START, name);
 }
 

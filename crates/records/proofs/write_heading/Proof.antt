@@ -4,8 +4,7 @@ use mathlib.Core.Path.{_≡_, ap, _∙_}
 use native.Mathlib.Omega.{arith}
 use lib.ListN.{length, replicate}
 use Rattle.columns.specs.Columns.{put}
-use Rattle.columns.specs.WrittenLaws.{digits-length}
-use Rattle.layout.specs.Layout.{lengthOf, typeStart, typeWidth, typeDigits}
+use Rattle.layout.specs.Layout.{lengthOf, typeStart, typeDigits}
 use Rattle.layout.specs.LayoutLaws.{length-least}
 use Rattle.records.specs.Records.{headed}
 use borrow.Author.Needs.{needs}
@@ -16,13 +15,10 @@ use Rattle.records.proofs.write_heading.Tie as tie
 abbrev start : tie.After-fill-with → tie.Start
 start c = c .before .before .before .before
 
-abbrev filled : tie.After-type-digits → tie.After-fill-with
-filled c = c .before .before .before
+abbrev filled : tie.After-type-code → tie.After-fill-with
+filled c = c .before .before .before .before
 
-abbrev told : tie.After-digits → tie.After-type-digits
-told c = c .before .before
-
-abbrev typed : tie.After-write-bytes-arg2 → tie.After-write-bytes
+abbrev typed : tie.After-write-bytes-arg → tie.After-write-digits
 typed c = c .before .before .before
 
 -- the blank line has the type's length
@@ -30,28 +26,26 @@ blank : (c : tie.After-fill-with) → length (c .fill-with .last .0) ≡ lengthO
 blank c = c .fill-with .kept .0 ∙ start c .pre .0
 
 -- the type stands in it
-stands : (c : tie.After-write-bytes) →
-    let f = filled (told (c .before)) in c .write-bytes .last .0 ≡ put typeStart (typeDigits (start f .args .t)) (f .fill-with .last .0)
-stands c = rw (told (c .before) .type-digits .ensures) at (c .write-bytes .ensures)
+stands : (c : tie.After-write-digits) →
+    let f = filled (c .before) in c .write-digits .last .0 ≡ put typeStart (typeDigits (start f .args .t)) (f .fill-with .last .0)
+stands c = rw (c .before .type-code .ensures) at (c .write-digits .ensures)
 
 fill-with-requires : tie.Need-fill-with-requires
 fill-with-requires c κs = search needs
 
-type-digits-requires : tie.Need-type-digits-requires
-type-digits-requires c κs = search needs
+type-code-requires : tie.Need-type-code-requires
+type-code-requires c κs = search needs
 
-slice-aggregate-write-bytes : tie.Need-slice-aggregate-write-bytes
-slice-aggregate-write-bytes c = search needs
+write-digits-requires : tie.Need-write-digits-requires
+write-digits-requires c κs =
+    let f = filled c in
+    omega (arith, blank f, length-least (start f .args .t))
 
 write-bytes-requires : tie.Need-write-bytes-requires
 write-bytes-requires c κs =
-    let f = filled (told c) in
-    rw (told c .type-digits .ensures, digits-length typeWidth _) (omega (arith, blank f, length-least (start f .args .t)))
-
-write-bytes-requires-2 : tie.Need-write-bytes-requires-2
-write-bytes-requires-2 c κs =
-    let f = filled (told (typed c .before)) in
-    omega (arith, typed c .write-bytes .kept .0, blank f, length-least (start f .args .t))
+    let w = typed c in
+    let f = filled (w .before) in
+    omega (arith, w .write-digits .kept .0, blank f, length-least (start f .args .t))
 
 same-length : tie.Need-same-length
 same-length c = search needs
@@ -61,17 +55,8 @@ unfolding headed
 returns c =
     let n = c .before .before in
     let w = typed (n .before) in
-    let f = filled (told (w .before)) in
-    n .write-bytes2 .ensures ∙ ap (put _ _) (stands w ∙ ap (put _ _) (f .fill-with .ensures ∙ ap (λ (long : ℕ). replicate long 32) (start f .pre .0)))
+    let f = filled (w .before) in
+    n .write-bytes .ensures ∙ ap (put _ _) (stands w ∙ ap (put _ _) (f .fill-with .ensures ∙ ap (λ (long : ℕ). replicate long 32) (start f .pre .0)))
 
 pub write-heading-spec : {M : Type 1} → statement M
-write-heading-spec =
-    tie.close
-    (tie.spec
-    fill-with-requires
-    type-digits-requires
-    slice-aggregate-write-bytes
-    write-bytes-requires
-    write-bytes-requires-2
-    same-length
-    returns)
+write-heading-spec = tie.close (tie.spec fill-with-requires type-code-requires write-digits-requires write-bytes-requires same-length returns)
