@@ -1,2 +1,4 @@
 pub mod Stamp
 pub mod StampLaws
+pub mod Pairs
+pub mod PairLaws

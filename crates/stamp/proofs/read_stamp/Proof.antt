@@ -1,60 +1,78 @@
--- `stamp::read_stamp` meets its contract: eight digits name an hour, and anything else is outside.
-use mathlib.Core.Path.{_≡_, _∙_, sym, ap}
-use Rattle.layout.specs.Layout.{dateWidth}
+-- `stamp::read_stamp` meets its contract: the law `stamp-by-pairs`, with the four pairs that were read.
+use mathlib.Core.Path.{_≡_, _∙_, sym}
+use borrow.Author.Tests.{eq-eqb, ne-eqb}
 use Rattle.columns.specs.Columns.{columns}
-use Rattle.columns.specs.declared.Field.{Field}
-use Rattle.stamp.specs.Stamp.{fieldHour, stampHour}
+use Rattle.layout.specs.Layout.{dateWidth}
+use Rattle.stamp.specs.Stamp.{stampHour}
+use Rattle.stamp.specs.PairLaws.{pairsHour, stamp-by-pairs}
 use borrow.Author.Needs.{needs}
 use Rattle.stamp.proofs.read_stamp.Statement.{statement}
 use Rattle.stamp.proofs.read_stamp.Tie as tie
 
-abbrev start : tie.After-read-digits → tie.Start
-start c = c .before .before
+-- the places of the code, each from the next one below it
+abbrev day : tie.After-two-digits4 → tie.After-two-digits3
+day c = c .before
 
--- what the digits hold names the hour
-told : (c : tie.After-read-digits) (f : Field) → c .read-digits .result ≡ f → let x = start c .args in
-    fieldHour (x .year) (x .quarter) f ≡ stampHour (x .year) (x .quarter) (columns (x .start) dateWidth (x .line .now))
-unfolding stampHour
-told c f e = ap (fieldHour (start c .args .year) (start c .args .quarter)) (sym e ∙ c .read-digits .ensures .0)
+abbrev month : tie.After-two-digits4 → tie.After-two-digits2
+month c = day c .before
 
-read-digits-requires : tie.Need-read-digits-requires
-read-digits-requires c κs = search needs
+abbrev year : tie.After-two-digits4 → tie.After-two-digits
+year c = month c .before
 
-enum-known-field : tie.Need-enum-known-field
-enum-known-field c = search needs
+abbrev start : tie.After-two-digits4 → tie.Start
+start c = year c .before .before
 
-hour-named-requires : tie.Need-hour-named-requires
-hour-named-requires c κs = search needs
+by-pairs : (c : tie.After-two-digits4) → let x = start c .args in
+    stampHour (x .year) (x .quarter) (columns (x .start) dateWidth (x .line .now))
+    ≡ pairsHour (x .year) (x .quarter)
+    (year c .two-digits .result) (month c .two-digits2 .result) (day c .two-digits3 .result) (c .two-digits4 .result)
+by-pairs c =
+    let s = start c in
+    let x = s .args in
+    stamp-by-pairs (x .line .now) (x .year) (x .quarter) (s .pre .1) (x .start) (s .pre .0) _ _ _ _
+    (year c .two-digits .ensures) (month c .two-digits2 .ensures) (day c .two-digits3 .ensures) (c .two-digits4 .ensures)
 
-enum-told : tie.Need-enum-told
-enum-told c = search needs
+add-month-start : tie.Need-add-month-start
+add-month-start c = search needs
 
-enum-told-2 : tie.Need-enum-told-2
-enum-told-2 c = search needs
+add-day-start : tie.Need-add-day-start
+add-day-start c = search needs
+
+add-hour-start : tie.Need-add-hour-start
+add-hour-start c = search needs
+
+two-digits-requires : tie.Need-two-digits-requires
+two-digits-requires c κs = search needs
+
+two-digits-requires-2 : tie.Need-two-digits-requires-2
+two-digits-requires-2 c κs = search needs
+
+two-digits-requires-3 : tie.Need-two-digits-requires-3
+two-digits-requires-3 c κs = search needs
+
+two-digits-requires-4 : tie.Need-two-digits-requires-4
+two-digits-requires-4 c κs = search needs
 
 returns : tie.Need-returns
-unfolding fieldHour
-returns c =
-    let n = c .before .before in
-    c .hour-named .ensures ∙ told (n .before .before) _ (n .field .given .1)
+returns c = sym (by-pairs (c .before) ∙ rw (ne-eqb _ _ (c .if1 .taken)))
+
+hour-of-quarter-requires : tie.Need-hour-of-quarter-requires
+hour-of-quarter-requires c κs = search needs
 
 returns-2 : tie.Need-returns-2
-unfolding fieldHour
-returns-2 c = told (c .before .before) _ (c .enum-told .given .1)
-
-returns-3 : tie.Need-returns-3
-unfolding fieldHour
-returns-3 c = told (c .before .before) _ (c .enum-told2 .given .1)
+returns-2 c = c .hour-of-quarter .ensures ∙ sym (by-pairs (c .before .before) ∙ rw (eq-eqb _ _ (c .before .if1 .left)))
 
 pub read-stamp-spec : {M : Type 1} → statement M
 read-stamp-spec =
     tie.close
     (tie.spec
-    read-digits-requires
-    enum-known-field
-    hour-named-requires
-    enum-told
-    enum-told-2
+    add-month-start
+    add-day-start
+    add-hour-start
+    two-digits-requires
+    two-digits-requires-2
+    two-digits-requires-3
+    two-digits-requires-4
     returns
-    returns-2
-    returns-3)
+    hour-of-quarter-requires
+    returns-2)
