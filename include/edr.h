@@ -21,7 +21,7 @@ enum {
     EDR_RECORDER_ANSWER_LENGTH = 5 /* numbers of the answer to such an hour */
 };
 
-/* The bytes of a report of so many operating hours. */
+/* The bytes of a report of so many operating hours and no idle ones. No accepted report has more than that of EDR_MOST_HOURS. */
 #define EDR_REPORT_LENGTH(hours) (64 + 318 * (size_t)(hours))
 
 /* What edr_check returns. */
@@ -64,7 +64,7 @@ enum edr_refusal {
     EDR_REFUSAL_UNPRINTABLE = 4,    /* a byte that is not printable ASCII */
     EDR_REFUSAL_STACK_NAME = 5,     /* blank, or unlike that of line 100 */
     EDR_REFUSAL_DATE = 6,           /* year, quarter, date or hour: not digits, no real date, not in the quarter, not later */
-    EDR_REFUSAL_DATE_DIFFERS = 7,   /* date and hour unlike those of the 200 line of the same rank */
+    EDR_REFUSAL_DATE_DIFFERS = 7,   /* date and hour unlike those of the 200 line of the same rank, or no such 200 line */
     EDR_REFUSAL_FORMAT = 8,         /* a value that is not in its format */
     EDR_REFUSAL_RANGE = 9,          /* a value outside its range */
     EDR_REFUSAL_LINES_MISSING = 10, /* missing at the end, this line first */
@@ -97,7 +97,10 @@ enum edr_refusal {
     /* an hour from a recorder, without a line: the three are tried on SO2, then on NOx, CO2 and flow */
     EDR_REFUSAL_READING_ABSENT = 44,
     EDR_REFUSAL_READING_NEGATIVE_OR_NOT_FINITE = 45, /* minus zero counts as 0 */
-    EDR_REFUSAL_READING_RANGE = 46 /* recorded as SO2 or NOx over 9,999.9, CO2 0.0 or over 100.0, flow over 500,000,000 */
+    EDR_REFUSAL_READING_RANGE = 46, /* recorded as SO2 or NOx over 9,999.9, CO2 0.0 or over 100.0, flow over 500,000,000 */
+
+    /* a 300 line of the file, tried in the place of heat input's EDR_REFUSAL_FORMAT */
+    EDR_REFUSAL_IDLE_HEAT_NOT_BLANK = 47 /* time 0.00, and heat input that is not blank */
 };
 
 /* The kinds of a sheet's words, in the order in which an hour's words stand, and what their values count. */
@@ -120,8 +123,8 @@ static inline uint32_t edr_word(enum edr_kind kind, uint32_t value)
     return (uint32_t)kind << EDR_VALUE_BITS | (value < EDR_MOST_VALUE ? value : EDR_MOST_VALUE);
 }
 
-/* The word of an hour of the quarter with its operating time in hundredths of an hour. An hour or a time too large for its bits
-   becomes the largest, which edr_write refuses. */
+/* The word of an hour of the quarter with its operating time in hundredths of an hour, 1 to 100: idle hours have no words. An hour or
+   a time too large for its bits becomes the largest, which edr_write refuses. */
 static inline uint32_t edr_hour_word(uint32_t hour, uint32_t time)
 {
     const uint32_t most_hour = EDR_MOST_VALUE >> 7;

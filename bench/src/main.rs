@@ -1,5 +1,6 @@
 //! On a full quarter of 2,208 operating hours, in one run and with warm buffers: the proved check and writer, those of the second
-//! implementation, and a plain pass over as many bytes. They take turns; the best time of each is printed.
+//! implementation, and a plain pass over as many bytes; and the proved check on that quarter with every other hour idle. They take turns;
+//! the best time of each is printed.
 //!
 //! `bench check-only N` and `bench write-only N` only check or write N times, for a profiler.
 
@@ -12,6 +13,8 @@ use second::generate::{recorder, sheets};
 use second::random::Random;
 use second::write::Order;
 
+const YEAR: u32 = 2005;
+const QUARTER: u32 = 3;
 const HOURS: usize = edr::MOST_HOURS;
 const ROUNDS: usize = 100;
 
@@ -38,11 +41,11 @@ impl Runner<'_> {
 }
 
 /// Times the runners in turn and prints a table; the first is the proved one, the last the plain pass.
-fn race(title: &str, mut runners: [Runner; 3]) {
+fn race<const RUNNERS: usize>(title: &str, mut runners: [Runner; RUNNERS]) {
     for _ in 0..ROUNDS {
         runners.iter_mut().for_each(Runner::turn);
     }
-    let [proved, _, plain] = runners.each_ref().map(|runner| runner.best);
+    let (proved, plain) = (runners[0].best, runners[RUNNERS - 1].best);
     println!("{title:<24}{:>14}{:>12}{:>12}", "microseconds", "to proved", "to plain");
     for Runner { name, best, .. } in &runners {
         println!("  {name:<22}{best:>14.1}{:>12.2}{:>12.2}", best / proved, best / plain);
@@ -52,13 +55,23 @@ fn race(title: &str, mut runners: [Runner; 3]) {
 /// An honest report of the quarter, as a recorder writes it.
 fn recorded_file() -> Vec<u8> {
     let mut random = Random::new(1);
-    let report = recorder::report_in(&mut random, 2005, 3, HOURS);
+    let report = recorder::report_in(&mut random, YEAR, QUARTER, HOURS);
+    recorder::bytes(&mut random, &report)
+}
+
+/// The same with every other hour listed as idle.
+fn half_idle_file() -> Vec<u8> {
+    let mut random = Random::new(1);
+    let mut report = recorder::report_in(&mut random, YEAR, QUARTER, HOURS);
+    report.hours.retain(|hour| hour.hour_of_quarter % 2 == 0);
+    report.idle_hours = (1..HOURS as u32).step_by(2).collect();
+    report.add_up();
     recorder::bytes(&mut random, &report)
 }
 
 /// A sheet of the quarter.
 fn order() -> Order {
-    sheets::order_in(&mut Random::new(1), 2005, 3, HOURS)
+    sheets::order_in(&mut Random::new(1), YEAR, QUARTER, HOURS)
 }
 
 fn proved_write(order: &Order, buffer: &mut [u8]) -> Written {
@@ -75,14 +88,22 @@ fn written_file(order: &Order) -> Vec<u8> {
     proved
 }
 
-fn race_checks() {
-    let file = &recorded_file();
-    assert_eq!(edr::check(file).to_string(), second::check::check(file).to_string());
+/// Both checks accept the file, with so many operating hours and the same totals.
+fn assert_accepted(file: &[u8], hours: usize) {
+    let answer = edr::check(file).to_string();
+    assert!(answer.starts_with(&format!("accepted {hours} ")), "{answer}");
+    assert_eq!(answer, second::check::check(file).to_string());
+}
+
+fn race_checks(file: &[u8], half_idle: &[u8]) {
+    assert_accepted(file, HOURS);
+    assert_accepted(half_idle, HOURS / 2);
     let sum = || black_box(file).iter().map(|&byte| u64::from(byte)).sum::<u64>();
     race(
         "check",
         [
             runner("proved", || edr::check(black_box(file))),
+            runner("proved, half idle", || edr::check(black_box(half_idle))),
             runner("second", || second::check::check(black_box(file))),
             runner("adding up the bytes", sum),
         ],
@@ -104,8 +125,13 @@ fn race_writers() {
 }
 
 fn race_all() {
-    println!("{HOURS} hours, {} bytes, best of {ROUNDS} rounds", edr::report_length(HOURS));
-    race_checks();
+    let (file, half_idle) = (recorded_file(), half_idle_file());
+    println!(
+        "{HOURS} hours, {} bytes; half idle, {} bytes; best of {ROUNDS} rounds",
+        file.len(),
+        half_idle.len()
+    );
+    race_checks(&file, &half_idle);
     race_writers();
 }
 

@@ -1,7 +1,9 @@
-//! Fresh cases of the second implementation's maker, and sheets for all sizes of written numbers, answered by the proved library and
-//! by the second implementation. Prints each case whose answers differ, and at the end how many cases there were and how many differ.
+//! Fresh cases of the second implementation's maker, sheets for all sizes of written numbers, and quarters with every hour listed,
+//! answered by the proved library and by the second implementation. Prints each case whose answers differ, and at the end how many cases
+//! there were and how many differ.
 
 mod float_hours;
+mod idle_hours;
 mod written_numbers;
 mod years;
 
@@ -95,6 +97,7 @@ fn kind(case: &Case) -> &'static str {
 fn compare(seed: u64, count: usize) -> usize {
     let mut cases = generate::cases(seed, count);
     cases.extend(written_numbers::cases());
+    cases.extend(idle_hours::cases());
     let joinings = generate::years(seed, count);
     let hours = generate::float_hours(seed, count);
     let mut comparing = Comparing::default();

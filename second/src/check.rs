@@ -52,7 +52,50 @@ struct Contents {
     times: Vec<u128>,
     readings: Vec<Readings>,
     figures: Vec<[u128; 4]>,
+    /// The lines of the heat figures: idle hours may stand between them.
+    heat_lines: Vec<usize>,
     totals: [u128; 4],
+    totals_line: usize,
+}
+
+impl Contents {
+    /// The line of an hour's figure. The lines 310, 320 and 330 follow on the
+    /// totals, and have no idle hours among them.
+    fn line_of_figure(&self, index: usize, rank: usize) -> usize {
+        match index {
+            0 => self.heat_lines[rank],
+            _ => self.totals_line + (index - 1) * self.heat_lines.len() + rank + 1,
+        }
+    }
+}
+
+/// What the 300 line of an operating hour says, and where it stands.
+struct OperatingHour {
+    line: usize,
+    time: u128,
+    heat: u128,
+}
+
+/// The dates of one record type: hours of the quarter, each later than the one
+/// before.
+struct RisingDates {
+    year: u32,
+    quarter: u32,
+    last: Option<Moment>,
+}
+
+impl RisingDates {
+    fn of_quarter(year: u32, quarter: u32) -> Self {
+        RisingDates { year, quarter, last: None }
+    }
+
+    /// Whether the next date is as it must be.
+    fn take(&mut self, date: &[u8]) -> bool {
+        let before = self.last;
+        self.last = moment(date, self.year, self.quarter);
+        // Nothing is less than any date, so a wrong date is not later either.
+        self.last > before
+    }
 }
 
 /// The lines of a file without their ends, and how far they have been read.
@@ -96,7 +139,7 @@ impl<'a> Lines<'a> {
         let name = NAME.of(line);
         if record.kind == b"100" {
             self.name = name;
-            if name.iter().all(|&byte| byte == b' ') {
+            if is_blank(name) {
                 return fault(5, number);
             }
         } else if name != self.name {
@@ -106,7 +149,23 @@ impl<'a> Lines<'a> {
         Ok(line)
     }
 
-    /// The next line of an hour after the 200 lines: as above, and its date is
+    /// The next line of a record type whose dates rise, and its date.
+    fn next_rising(
+        &mut self,
+        record: &Record,
+        date: Columns,
+        dates: &mut RisingDates,
+    ) -> Result<(&'a [u8], &'a [u8]), Fault> {
+        let line = self.next(record)?;
+        let date = date.of(line);
+        if dates.take(date) {
+            Ok((line, date))
+        } else {
+            fault(6, self.read)
+        }
+    }
+
+    /// The next line of an operating hour, 200 and 300 lines apart: its date is
     /// that of the 200 line of the same rank.
     fn next_dated(&mut self, record: &Record, date: &[u8]) -> Result<&'a [u8], Fault> {
         let line = self.next(record)?;
@@ -129,6 +188,38 @@ impl<'a> Lines<'a> {
             Some(recorded) => Ok(recorded),
             None => fault(43, self.read),
         }
+    }
+
+    /// The time on the 300 line just read, or nothing if its hour is idle.
+    fn time(&self, line: &[u8]) -> Result<Option<u128>, Fault> {
+        match read_number(TIME.columns.of(line), TIME.decimals) {
+            Some(0) => Ok(None),
+            _ => self.value(line, &R300, 0).map(Some),
+        }
+    }
+
+    /// The 300 lines: those of the operating hours, one for each date, and idle
+    /// hours before, between and behind them.
+    fn listed_hours(
+        &mut self,
+        dates: &[&[u8]],
+        mut rising: RisingDates,
+    ) -> Result<Vec<OperatingHour>, Fault> {
+        let mut operating: Vec<OperatingHour> = Vec::with_capacity(dates.len());
+        while operating.len() < dates.len() || self.next_is(&R300) {
+            let (line, date) = self.next_rising(&R300, DATE_300, &mut rising)?;
+            let Some(time) = self.time(line)? else {
+                if !is_blank(HEAT.columns.of(line)) {
+                    return fault(47, self.read);
+                }
+                continue;
+            };
+            if dates.get(operating.len()) != Some(&date) {
+                return fault(7, self.read);
+            }
+            operating.push(OperatingHour { line: self.read, time, heat: self.value(line, &R300, 1)? });
+        }
+        Ok(operating)
     }
 
     /// The block of a record type with a single value, one line for each date.
@@ -166,7 +257,7 @@ fn year_and_quarter(line: &[u8]) -> Option<(u32, u32)> {
     ((1995..=2094).contains(&year) && (1..=4).contains(&quarter)).then_some((year, quarter))
 }
 
-/// The date of a 200 line, if it is one of the quarter.
+/// The moment that eight digits tell, if it is one of the quarter.
 fn moment(date: &[u8], year: u32, quarter: u32) -> Option<Moment> {
     let two_digits: Option<Vec<u32>> = date.chunks(2).map(digits).collect();
     let &[yy, month, day, hour] = two_digits?.as_slice() else {
@@ -184,18 +275,11 @@ fn read(file: &[u8]) -> Result<Contents, Fault> {
         return fault(6, lines.read);
     };
 
+    let mut rising = RisingDates::of_quarter(year, quarter);
     let mut dates: Vec<&[u8]> = Vec::new();
     let mut so2 = Vec::new();
-    let mut last: Option<Moment> = None;
     while lines.next_is(&R200) {
-        let line = lines.next(&R200)?;
-        let date = DATE_200.of(line);
-        let now = moment(date, year, quarter);
-        // Nothing is less than any date, so this also catches a wrong date.
-        if now <= last {
-            return fault(6, lines.read);
-        }
-        last = now;
+        let (line, date) = lines.next_rising(&R200, DATE_200, &mut rising)?;
         dates.push(date);
         so2.push(lines.value(line, &R200, 0)?);
     }
@@ -203,10 +287,10 @@ fn read(file: &[u8]) -> Result<Contents, Fault> {
     let nox = lines.block(&R201, &dates)?;
     let co2 = lines.block(&R202, &dates)?;
     let flow = lines.block(&R220, &dates)?;
-    let time_heat = lines.double_block(&R300, &dates)?;
+    let operating = lines.listed_hours(&dates, RisingDates::of_quarter(year, quarter))?;
     let line = lines.next(&R301)?;
-    let mut totals = [0; 4];
-    for (index, total) in totals.iter_mut().enumerate() {
+    let mut contents = Contents { totals_line: lines.read, ..Contents::default() };
+    for (index, total) in contents.totals.iter_mut().enumerate() {
         *total = lines.value(line, &R301, index)?;
     }
     let so2_rate = lines.block(&R310, &dates)?;
@@ -216,10 +300,9 @@ fn read(file: &[u8]) -> Result<Contents, Fault> {
         return fault(2, lines.read + 1);
     }
 
-    let mut contents = Contents { totals, ..Contents::default() };
-    for i in 0..dates.len() {
-        let [time, heat] = time_heat[i];
+    for (i, OperatingHour { line, time, heat }) in operating.into_iter().enumerate() {
         let [fc, nox_rate] = fc_nox[i];
+        contents.heat_lines.push(line);
         contents.times.push(time);
         contents.readings.push(Readings { so2: so2[i], nox: nox[i], co2: co2[i], flow: flow[i], fc });
         contents.figures.push([heat, so2_rate[i], nox_rate, co2_rate[i]]);
@@ -233,15 +316,14 @@ fn judge(contents: &Contents) -> Result<Answer, Fault> {
     for (rank, (readings, figures)) in contents.readings.iter().zip(&contents.figures).enumerate() {
         for (index, figure) in FIGURES.iter().enumerate() {
             if !figure.possible(readings, figures[index]) {
-                // Blocks of the lines 300, 310, 320 and 330.
-                return fault(11 + index as u32, line_of(4 + index, hours, rank));
+                return fault(11 + index as u32, contents.line_of_figure(index, rank));
             }
         }
     }
     let formed = totals_of(contents.times.iter().copied().zip(&contents.figures));
     for (index, total) in formed.iter().enumerate() {
         if contents.totals[index] != *total {
-            return fault(21 + index as u32, totals_line(hours));
+            return fault(21 + index as u32, contents.totals_line);
         }
     }
     Ok(Answer::Accepted { hours, totals: formed })
@@ -250,17 +332,31 @@ fn judge(contents: &Contents) -> Result<Answer, Fault> {
 #[cfg(test)]
 mod tests {
     use super::*;
+    use crate::generate::page::Page;
     use crate::report::{Hour, PlainPen, Report};
+
+    /// A report with the paper's hour at these hours of the quarter, and with
+    /// these idle hours.
+    fn report(operating: &[u32], idle: impl IntoIterator<Item = u32>) -> Page {
+        let readings = Readings { so2: 2_500, nox: 2_000, co2: 120, flow: 20_000, fc: 18_000 };
+        let figures = FIGURES.map(|figure| figure.of_recorded(&readings));
+        let hour = |&hour_of_quarter: &u32| Hour { hour_of_quarter, time: 50, readings, figures };
+        let (name, hours) = (*b"STACK1", operating.iter().map(hour).collect());
+        let idle_hours = idle.into_iter().collect();
+        let mut report = Report { year: 2005, quarter: 3, name, hours, idle_hours, totals: [0; 4] };
+        report.add_up();
+        Page::of(&report.bytes(&mut PlainPen))
+    }
+
+    fn answer(page: &Page) -> String {
+        check(&page.bytes()).to_string()
+    }
 
     /// The answer to the paper's hour with this text in the columns of flow.
     fn answer_to(flow: &str) -> String {
-        let readings = Readings { so2: 2_500, nox: 2_000, co2: 120, flow: 20_000, fc: 18_000 };
-        let figures = FIGURES.map(|figure| figure.of_recorded(&readings));
-        let hours = vec![Hour { hour_of_quarter: 0, time: 50, readings, figures }];
-        let mut report = Report { year: 2005, quarter: 3, name: *b"STACK1", hours, totals: [0; 4] };
-        report.add_up();
-        let file = String::from_utf8(report.bytes(&mut PlainPen)).unwrap();
-        check(file.replace("  20000000", flow).as_bytes()).to_string()
+        let mut page = report(&[0], []);
+        page.set(4, FLOW.columns, flow.as_bytes());
+        answer(&page)
     }
 
     #[test]
@@ -276,5 +372,139 @@ mod tests {
             assert_eq!(answer_to(flow), "refused 43 5", "{flow}");
         }
         assert_eq!(answer_to(" 500000000"), "refused 11 6");
+    }
+
+    /// Operating hours 1 and 3 on lines 11 and 13, idle hours 0, 2 and 4 on lines
+    /// 10, 12 and 14, and the totals on line 15.
+    fn listed() -> Page {
+        report(&[1, 3], [0, 2, 4])
+    }
+
+    /// The answer to these changes of text on lines of `listed`.
+    fn answer_with(changes: &[(usize, Columns, &str)]) -> String {
+        let mut page = listed();
+        for (line, columns, text) in changes {
+            page.set(line - 1, *columns, text.as_bytes());
+        }
+        answer(&page)
+    }
+
+    const HEAT_COLUMNS: Columns = HEAT.columns;
+    const TIME_COLUMNS: Columns = TIME.columns;
+
+    #[test]
+    fn idle_hours_add_nothing() {
+        for idle in [0..0, 1..2, 1..2_208] {
+            assert_eq!(answer(&report(&[0], idle)), "accepted 1 2 684 6667 358");
+        }
+        for idle in [0..0, 7..8, 0..2_208] {
+            assert_eq!(answer(&report(&[], idle)), "accepted 0 0 0 0 0");
+        }
+        assert_eq!(answer(&report(&[2_207], 0..2_207)), "accepted 1 2 684 6667 358");
+        assert_eq!(answer(&listed()), "accepted 2 4 1368 13333 358");
+    }
+
+    #[test]
+    fn heat_of_an_idle_hour_is_blank() {
+        for heat in ["    0.0", " 1333.3", "0      ", "      0", "   .   ", "-------"] {
+            for line in [10, 12, 14] {
+                let answer = answer_with(&[(line, HEAT_COLUMNS, heat)]);
+                assert_eq!(answer, format!("refused 47 {line}"), "{heat}");
+            }
+        }
+        assert_eq!(answer_with(&[(11, TIME_COLUMNS, "0.00")]), "refused 47 11");
+        assert_eq!(answer_with(&[(11, HEAT_COLUMNS, "       ")]), "refused 8 11");
+    }
+
+    #[test]
+    fn time_is_a_number_up_to_a_whole_hour() {
+        for time in ["    ", " .00", "0.0 ", "0000", "-.00"] {
+            for (line, heat) in [(10, "       "), (10, "    0.0"), (13, "       "), (13, " 1333.3")] {
+                let answer = answer_with(&[(line, TIME_COLUMNS, time), (line, HEAT_COLUMNS, heat)]);
+                assert_eq!(answer, format!("refused 8 {line}"), "{time}");
+            }
+        }
+        for line in 10..15 {
+            assert_eq!(answer_with(&[(line, TIME_COLUMNS, "1.01")]), format!("refused 9 {line}"));
+        }
+    }
+
+    #[test]
+    fn dates_of_listed_hours_rise() {
+        for date in ["05063023", "05100100", "0507010x", "05070124", "04070102", "05070101", "05070100"] {
+            for (time, heat) in [("0.00", "       "), ("0.00", "    0.0"), ("x.xx", "       ")] {
+                let changes = [(12, DATE_300, date), (12, TIME_COLUMNS, time), (12, HEAT_COLUMNS, heat)];
+                assert_eq!(answer_with(&changes), "refused 6 12", "{date}");
+            }
+        }
+        assert_eq!(answer_with(&[(12, DATE_300, "05070103")]), "refused 6 13");
+        assert_eq!(answer_with(&[(12, DATE_300, "05093023")]), "refused 6 13");
+        assert_eq!(answer_with(&[(14, DATE_300, "05093023")]), "accepted 2 4 1368 13333 358");
+    }
+
+    #[test]
+    fn operating_hours_have_ranks_among_themselves() {
+        for (line, date) in [(11, "05070102"), (13, "05070104"), (13, "05070105")] {
+            for heat in [" 1333.3", "       ", "xxxxxxx"] {
+                let changes = [(line, DATE_300, date), (line, HEAT_COLUMNS, heat)];
+                assert_eq!(answer_with(&changes), format!("refused 7 {line}"), "{date}");
+            }
+        }
+        for line in [10, 12, 14] {
+            assert_eq!(answer_with(&[(line, TIME_COLUMNS, "0.50")]), format!("refused 7 {line}"));
+        }
+        let idle = |line| [(line, TIME_COLUMNS, "0.00"), (line, HEAT_COLUMNS, "       ")];
+        assert_eq!(answer_with(&idle(11)), "refused 7 13");
+        assert_eq!(answer_with(&idle(13)), "refused 2 15");
+        let mut alone = report(&[], 0..3);
+        alone.set(2, TIME_COLUMNS, b"1.00");
+        assert_eq!(answer(&alone), "refused 7 3");
+    }
+
+    #[test]
+    fn listed_hours_end_with_the_totals() {
+        for (kept, number) in [(9, 10), (11, 10), (13, 10), (14, 10)] {
+            let mut page = listed();
+            page.lines.truncate(kept);
+            assert_eq!(answer(&page), format!("refused {number} {}", kept + 1));
+        }
+        for index in 9..14 {
+            let mut page = listed();
+            page.lines.insert(index + 1, page.lines[1].clone());
+            assert_eq!(answer(&page), format!("refused 2 {}", index + 2));
+        }
+        let mut page = listed();
+        page.lines.remove(14);
+        assert_eq!(answer(&page), "refused 2 15");
+        page = listed();
+        page.lines.swap(13, 14);
+        assert_eq!(answer(&page), "refused 2 15");
+        page = listed();
+        page.lines.swap(12, 14);
+        assert_eq!(answer(&page), "refused 2 13");
+        page = report(&[], [5]);
+        page.lines.swap(1, 2);
+        assert_eq!(answer(&page), "refused 2 3");
+        page = report(&[], [5]);
+        page.lines.insert(2, listed().lines.swap_remove(1));
+        assert_eq!(answer(&page), "refused 2 3");
+    }
+
+    #[test]
+    fn figures_and_totals_stand_behind_idle_hours() {
+        assert_eq!(answer_with(&[(11, HEAT_COLUMNS, " 1327.6")]), "refused 11 11");
+        assert_eq!(answer_with(&[(13, HEAT_COLUMNS, " 1327.6")]), "refused 11 13");
+        for (line, record, value, text, number) in [
+            (17, &R310, 0, "  830.3", 12),
+            (19, &R320, 1, " 0.361", 13),
+            (21, &R330, 0, "  136.1", 14),
+            (15, &R301, 0, "        0.5", 21),
+            (15, &R301, 1, "      136.9", 22),
+            (15, &R301, 2, "     1333.4", 23),
+            (15, &R301, 3, " 0.143", 24),
+        ] {
+            let answer = answer_with(&[(line, record.values[value].columns, text)]);
+            assert_eq!(answer, format!("refused {number} {line}"));
+        }
     }
 }

@@ -6,7 +6,8 @@ mod edges;
 mod files;
 mod float_hours;
 mod flows;
-mod page;
+mod idle_hours;
+pub mod page;
 mod quarters;
 pub mod recorder;
 pub mod sheets;
@@ -21,8 +22,13 @@ pub use years::Joining;
 /// Makes the cases of one written report.
 type Group = fn(&mut Random, usize) -> Vec<Case>;
 
-/// The cases of a seed: about `count` files to check, a third as many sheets
-/// to write, and written reports of all sizes with changes to each.
+/// Where the random numbers of files with idle hours start: no other case comes
+/// to so high a part.
+const IDLE_HOURS: u64 = 1 << 41;
+
+/// The cases of a seed: `count` files to check, a third as many sheets to write,
+/// written reports of all sizes with changes to each, and a third as many files
+/// with idle hours.
 pub fn cases(seed: u64, count: usize) -> Vec<Case> {
     let mut cases = Vec::new();
     for number in 0..count {
@@ -40,6 +46,10 @@ pub fn cases(seed: u64, count: usize) -> Vec<Case> {
             cases.extend(group(random, number));
         }
     }
+    for number in 0..count.div_ceil(3) {
+        let random = &mut Random::branch(seed, IDLE_HOURS + number as u64);
+        cases.push(Case::File(idle_hours::file(random, number)));
+    }
     cases
 }
 
@@ -52,8 +62,8 @@ pub fn years(seed: u64, count: usize) -> Vec<Joining> {
         .collect()
 }
 
-/// Where the random numbers of a recorder's hours start: no other case comes to
-/// so high a part.
+/// Where the random numbers of a recorder's hours start: no other case but files
+/// with idle hours comes to so high a part.
 const FLOAT_HOURS: u64 = 1 << 40;
 
 /// Hours of a recorder: the named ones, which all seeds have, and so many of

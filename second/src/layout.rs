@@ -71,6 +71,8 @@ pub const QUARTER: Columns = Columns(14, 1);
 
 /// The date and hour on a 200 line.
 pub const DATE_200: Columns = Columns(16, 8);
+/// The date and hour on a 300 line.
+pub const DATE_300: Columns = Columns(10, 8);
 
 /// A value that may be anything its columns hold.
 const fn free(start: usize, width: usize, decimals: usize) -> Value {
@@ -84,6 +86,12 @@ const fn ranged(start: usize, width: usize, decimals: usize, low: u128, high: u1
 
 /// Flow in scfh, recorded to the nearest thousand.
 pub const FLOW: Value = Value { unit: 1_000, ..ranged(39, 10, 0, 0, 500_000_000) };
+
+/// The time of an operating hour. That of an idle hour is 0.
+pub const TIME: Value = ranged(18, 4, 2, 1, 100);
+
+/// Heat input of an operating hour. For an idle hour its columns are blank.
+pub const HEAT: Value = free(36, 7, 1);
 
 const fn record(
     kind: &'static [u8; 3],
@@ -99,8 +107,7 @@ pub const R200: Record = record(b"200", 40, Some(DATE_200), &[free(35, 6, 1)]);
 pub const R201: Record = record(b"201", 34, Some(Columns(16, 8)), &[free(29, 6, 1)]);
 pub const R202: Record = record(b"202", 34, Some(Columns(16, 8)), &[ranged(29, 6, 1, 1, 1000)]);
 pub const R220: Record = record(b"220", 48, Some(Columns(16, 8)), &[FLOW]);
-pub const R300: Record =
-    record(b"300", 42, Some(Columns(10, 8)), &[ranged(18, 4, 2, 1, 100), free(36, 7, 1)]);
+pub const R300: Record = record(b"300", 42, Some(DATE_300), &[TIME, HEAT]);
 pub const R301: Record =
     record(b"301", 48, None, &[free(10, 11, 1), free(21, 11, 1), free(32, 11, 1), free(43, 6, 3)]);
 pub const R310: Record = record(b"310", 34, Some(Columns(10, 8)), &[free(25, 7, 1)]);
@@ -111,22 +118,14 @@ pub const R330: Record = record(b"330", 24, Some(Columns(10, 8)), &[free(18, 7, 
 /// The eight record types of an operating hour, in file order.
 pub const HOURLY: [Record; 8] = [R200, R201, R202, R220, R300, R310, R320, R330];
 
-/// The bytes of a report with so many operating hours.
+/// The bytes of a report with so many operating hours and no idle ones.
 pub fn report_length(hours: usize) -> usize {
     64 + 318 * hours
 }
 
-/// The line, counted from 1, of the hour with this rank (from 0) in the block
-/// `HOURLY[block]` of a report with so many hours. Line 301 stands between
-/// the blocks of 300 and 310.
-pub fn line_of(block: usize, hours: usize, rank: usize) -> usize {
-    let before = if block < 5 { 1 } else { 2 };
-    before + block * hours + rank + 1
-}
-
-/// The line, counted from 1, of the totals.
-pub fn totals_line(hours: usize) -> usize {
-    5 * hours + 2
+/// Whether a field has nothing but blanks.
+pub fn is_blank(field: &[u8]) -> bool {
+    field.iter().all(|&byte| byte == b' ')
 }
 
 /// The number in a field, or nothing if it is not in the format: blanks or
@@ -193,6 +192,18 @@ mod tests {
         assert_eq!(read_number(b"         7", 0), Some(7));
         assert_eq!(read_number(b"          ", 0), None);
         assert_eq!(read_number(b"       7.0", 0), None);
+        for time in [" .00", "0.0 ", " 0.0", "0000", "   0", "00.0", ".000", "-.00", "0,00"] {
+            assert_eq!(read_number(time.as_bytes(), TIME.decimals), None, "{time}");
+        }
+        assert_eq!(read_number(b"0.00", TIME.decimals), Some(0));
+    }
+
+    #[test]
+    fn blank_is_blanks_alone() {
+        assert!(is_blank(b"       "));
+        for text in ["0      ", "      0", "   .   ", "    0.0", "\t\t\t\t\t\t\t", "\0\0\0\0\0\0\0"] {
+            assert!(!is_blank(text.as_bytes()), "{text}");
+        }
     }
 
     #[test]

@@ -14,15 +14,21 @@ pub struct Hour {
     pub figures: [u128; 4],
 }
 
-/// A whole report. Totals stand in the order SO2, CO2, heat, mean.
-#[derive(Clone, Debug, PartialEq, Eq)]
+/// A whole report. Idle hours are given by their hours of the quarter. Totals
+/// stand in the order SO2, CO2, heat, mean.
+#[derive(Clone, Debug, Default, PartialEq, Eq)]
 pub struct Report {
     pub year: u32,
     pub quarter: u32,
     pub name: [u8; 6],
     pub hours: Vec<Hour>,
+    pub idle_hours: Vec<u32>,
     pub totals: [u128; 4],
 }
+
+/// A value of a line in its recorded unit, or nothing where its columns are
+/// blank.
+type Entry = Option<u128>;
 
 /// How the parts of a report that leave a choice are put on paper.
 pub trait Pen {
@@ -75,37 +81,37 @@ impl Report {
 
     /// Whether every number fits into its columns.
     pub fn fits(&self) -> bool {
-        HOURLY.iter().chain([&R301]).all(|record| {
-            let one = |hour: Option<&Hour>| {
-                let numbers = self.numbers(record, hour);
-                numbers.iter().zip(record.values).all(|(&n, v)| n * v.unit <= v.largest())
-            };
-            match record.date {
-                Some(_) => self.hours.iter().all(|hour| one(Some(hour))),
-                None => one(None),
-            }
-        })
+        let fit = |record: &Record, numbers: &[u128]| {
+            numbers.iter().zip(record.values).all(|(&number, value)| number * value.unit <= value.largest())
+        };
+        let hour_fits = |hour: &Hour| HOURLY.iter().all(|record| fit(record, &numbers(record, hour)));
+        self.hours.iter().all(hour_fits) && fit(&R301, &self.totals)
     }
 
-    /// The values of one line, left to right, in their recorded units.
-    fn numbers(&self, record: &Record, hour: Option<&Hour>) -> Vec<u128> {
-        let Some(Hour { time, readings: r, figures: f, .. }) = hour else {
-            return if record.kind == b"301" { self.totals.to_vec() } else { Vec::new() };
+    /// The lines of one record type: the hour of the quarter and the values,
+    /// left to right.
+    fn block(&self, record: &Record) -> Vec<(u32, Vec<Entry>)> {
+        let operating = |hour: &Hour| {
+            let entries = numbers(record, hour).into_iter().map(Some);
+            (hour.hour_of_quarter, entries.collect())
         };
-        match record.kind {
-            b"200" => vec![r.so2],
-            b"201" => vec![r.nox],
-            b"202" => vec![r.co2],
-            b"220" => vec![r.flow],
-            b"300" => vec![*time, f[0]],
-            b"310" => vec![f[1]],
-            b"320" => vec![r.fc, f[2]],
-            _ => vec![f[3]],
+        let mut lines: Vec<(u32, Vec<Entry>)> = self.hours.iter().map(operating).collect();
+        if record.kind == R300.kind {
+            lines.extend(self.idle_hours.iter().map(|&hour| (hour, vec![Some(0), None])));
+            lines.sort_by_key(|&(hour, _)| hour);
         }
+        lines
     }
 
     /// Puts one line with its end on paper.
-    fn line(&self, pen: &mut dyn Pen, record: &Record, hour: Option<&Hour>, paper: &mut Vec<u8>) {
+    fn line(
+        &self,
+        pen: &mut dyn Pen,
+        record: &Record,
+        hour_of_quarter: Option<u32>,
+        entries: &[Entry],
+        paper: &mut Vec<u8>,
+    ) {
         let mut line: Vec<u8> = (0..record.length).map(|_| pen.unread()).collect();
         line[..3].copy_from_slice(record.kind);
         NAME.of_mut(&mut line).copy_from_slice(&self.name);
@@ -114,13 +120,15 @@ impl Report {
             YEAR.of_mut(&mut line).copy_from_slice(year.as_bytes());
             QUARTER.of_mut(&mut line).copy_from_slice(self.quarter.to_string().as_bytes());
         }
-        if let (Some(columns), Some(hour)) = (record.date, hour) {
-            let moment = moment_of(self.year, self.quarter, hour.hour_of_quarter);
-            let date = eight_digits(self.year, moment);
+        if let (Some(columns), Some(hour)) = (record.date, hour_of_quarter) {
+            let date = eight_digits(self.year, moment_of(self.year, self.quarter, hour));
             columns.of_mut(&mut line).copy_from_slice(date.as_bytes());
         }
-        for (number, value) in self.numbers(record, hour).into_iter().zip(record.values) {
-            let text = pen.number(value.columns.1, number * value.unit, value.decimals);
+        for (entry, value) in entries.iter().zip(record.values) {
+            let text = match entry {
+                Some(number) => pen.number(value.columns.1, number * value.unit, value.decimals),
+                None => vec![b' '; value.columns.1],
+            };
             value.columns.of_mut(&mut line).copy_from_slice(&text);
         }
         paper.append(&mut line);
@@ -131,15 +139,31 @@ impl Report {
     /// that fit are needed.
     pub fn bytes(&self, pen: &mut dyn Pen) -> Vec<u8> {
         let mut paper = Vec::with_capacity(report_length(self.hours.len()));
-        self.line(pen, &R100, None, &mut paper);
-        for (block, record) in HOURLY.iter().enumerate() {
-            if block == 5 {
-                self.line(pen, &R301, None, &mut paper);
+        self.line(pen, &R100, None, &[], &mut paper);
+        for record in &HOURLY {
+            if record.kind == R310.kind {
+                self.line(pen, &R301, None, &self.totals.map(Some), &mut paper);
             }
-            for hour in &self.hours {
-                self.line(pen, record, Some(hour), &mut paper);
+            for (hour, entries) in self.block(record) {
+                self.line(pen, record, Some(hour), &entries, &mut paper);
             }
         }
         paper
+    }
+}
+
+/// The values of an operating hour's line, left to right, in their recorded
+/// units.
+fn numbers(record: &Record, hour: &Hour) -> Vec<u128> {
+    let Hour { time, readings: r, figures: f, .. } = hour;
+    match record.kind {
+        b"200" => vec![r.so2],
+        b"201" => vec![r.nox],
+        b"202" => vec![r.co2],
+        b"220" => vec![r.flow],
+        b"300" => vec![*time, f[0]],
+        b"310" => vec![f[1]],
+        b"320" => vec![r.fc, f[2]],
+        _ => vec![f[3]],
     }
 }

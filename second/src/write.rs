@@ -54,8 +54,8 @@ pub fn write(order: &Order, buffer: &mut [u8]) -> Result<usize, u32> {
 
 /// The report that belongs to an order whose sheet is sound, as numbers.
 pub fn report_of(order: &Order, hours: Vec<Hour>) -> Report {
-    let mut report =
-        Report { year: order.year, quarter: order.quarter, name: order.name, hours, totals: [0; 4] };
+    let Order { year, quarter, name, .. } = *order;
+    let mut report = Report { year, quarter, name, hours, ..Report::default() };
     report.add_up();
     report
 }

@@ -1,6 +1,7 @@
 -- The written records of a report, one by one, pass the line checks.
 use Prim.Native.Nat.{ℕ, zero, suc, _+_, _-_, _≤_, _<_}
 use mathlib.Core.Path.{_≡_, ap, _∙_}
+use mathlib.Core.Bool.{true}
 use mathlib.Core.List.{List, []}
 use native.Mathlib.Omega.{arith}
 use lib.ListN.{length}
@@ -21,12 +22,14 @@ use Rattle.stamp.specs.Stamp.{stampOf}
 use Rattle.stamp.specs.StampLaws.{stamp-length, stamp-names}
 use Rattle.totals.specs.declared.Quarter.{Quarter}
 use Rattle.layout.specs.declared.RecordType.{RecordType}
-use Rattle.layout.specs.declared.RecordType.the-variants.{Facility, So2Concentration, QuarterTotals}
+use Rattle.layout.specs.declared.RecordType.the-variants.{Facility, So2Concentration, Operation, QuarterTotals}
 use Rattle.lines.specs.LineFaults.{commonFault, valuesFault, digitsIn, facilityFault, facilityLine}
-use Rattle.lines.specs.LineFaults.{risingFault, hourOn, hourFault, hourNumber, hourLine, dueOf, dateFault, dueFault}
+use Rattle.lines.specs.LineFaults.{risingFault, hourOn, datedFault, hourFault, hourNumber, hourLine, dueOf, dateFault, dueFault, operates, operationLine}
+use Rattle.lines.specs.OperationLaws.{operation-said, due-operates, due-operation}
 use Rattle.lines.specs.declared.Period.{Period}
 use Rattle.lines.specs.declared.FacilityLine.the-variants.{Of}
 use Rattle.lines.specs.declared.HourLine.the-variants.{At as OfHour}
+use Rattle.lines.specs.declared.operation.OperationLine.the-variants.{Operating}
 use Rattle.sheet.specs.TestLaws.{Heading}
 use Rattle.writer.specs.Recorded.{ReportHour}
 use Rattle.records.specs.Records.{headed, facilityRecord, hourValues, totalValues, totalsRecord}
@@ -153,19 +156,39 @@ module _ (year quarter : ℕ) (name : List ℕ) (g : Heading year quarter name) 
       unfolding dueFault
       hour-due = rw (hour-common, date-right, hour-values)
 
-  -- the 200 line of an hour that may follow
-  module _ (h : ReportHour) (b : h .hour < hoursInQuarter year quarter)
-      (a : ValuesWithin (valuesOf So2Concentration) (hourValues So2Concentration (h .recorded))) where
-    named-hour : hourOn period (hourRecord year quarter name So2Concentration h) ≡ At (h .hour)
-    named-hour = rw (hour-date So2Concentration (omega arith) h) (stamp-names year quarter (g .isQuarter) (h .hour) b)
+  -- the 200 line and the 300 line of an hour that may follow
+  module _ (h : ReportHour) (b : h .hour < hoursInQuarter year quarter) where
+    named-hour : (t : RecordType) → 1 ≤ dateColumn t → hourOn period t (hourRecord year quarter name t h) ≡ At (h .hour)
+    named-hour t d = rw (hour-date t d h) (stamp-names year quarter (g .isQuarter) (h .hour) b)
 
-    hour-right : (from : ℕ) → from ≤ h .hour → hourFault facility period from (hourRecord year quarter name So2Concentration h) ≡ 0
-    unfolding hourFault risingFault
-    hour-right from f = rw (hour-common So2Concentration (omega arith) h, named-hour, le-leb from (h .hour) f) (hour-values So2Concentration (omega arith) h a)
+    hour-rises : (t : RecordType) → 1 ≤ dateColumn t → (from : ℕ) → from ≤ h .hour → risingFault from (hourOn period t (hourRecord year quarter name t h)) ≡ 0
+    unfolding risingFault
+    hour-rises t d from f = rw (named-hour t d, le-leb from (h .hour) f)
 
-    pub hour-named : (from : ℕ) → from ≤ h .hour → hourLine facility period from (hourRecord year quarter name So2Concentration h) ≡ OfHour (h .hour)
-    unfolding hourLine hourNumber
-    hour-named from f = rw (hour-right from f, hourLine) (ap (λ x. OfHour (hourNumber x)) named-hour)
+    module _ (a : ValuesWithin (valuesOf So2Concentration) (hourValues So2Concentration (h .recorded))) where
+      hour-right : (from : ℕ) → from ≤ h .hour → hourFault facility period from (hourRecord year quarter name So2Concentration h) ≡ 0
+      unfolding hourFault datedFault
+      hour-right from f =
+          rw (hour-common So2Concentration (omega arith) h, hour-rises So2Concentration (omega arith) from f) (hour-values So2Concentration (omega arith) h a)
+
+      pub hour-named : (from : ℕ) → from ≤ h .hour → hourLine facility period from (hourRecord year quarter name So2Concentration h) ≡ OfHour (h .hour)
+      unfolding hourLine hourNumber
+      hour-named from f = rw (hour-right from f, hourLine) (ap (λ x. OfHour (hourNumber x)) (named-hour So2Concentration (omega arith)))
+
+    module _ (a : ValuesWithin (valuesOf Operation) (hourValues Operation (h .recorded))) where
+      pub hour-operates : operates (hourRecord year quarter name Operation h) ≡ true
+      hour-operates =
+          due-operates facility period 0 (stampOf year quarter (h .hour)) (hourRecord year quarter name Operation h) (hour-due Operation (omega arith) h a)
+
+      pub operation-named : (from : ℕ) → from ≤ h .hour →
+          operationLine facility period from (stampOf year quarter (h .hour)) (hourRecord year quarter name Operation h) ≡ Operating (h .hour)
+      unfolding hourNumber
+      operation-named from f =
+          let l = hourRecord year quarter name Operation h in
+          let d = stampOf year quarter (h .hour) in
+          operation-said facility period from d l
+          (due-operation facility period from d l (hour-due Operation (omega arith) h a) (hour-rises Operation (omega arith) from f))
+          ∙ rw (hour-operates) (ap (λ x. Operating (hourNumber x)) (named-hour Operation (omega arith)))
 
   module _ (q : Quarter) where
     pub totals-framed : Framed QuarterTotals name (totalsRecord name q)

@@ -1,26 +1,32 @@
 -- The hours and totals of a written report are read back as they were recorded.
 use Prim.Native.Nat.{ℕ, zero, suc, _+_, _≤_, _<_}
-use mathlib.Core.Path.{_≡_, refl, sym, ap, ap₂, _∙_}
-use mathlib.Core.List.{List, [], _∷_, _++_}
+use mathlib.Core.Path.{_≡_, refl, sym, ap, ap₂, subst, _∙_}
+use mathlib.Core.Bool.{true, false, not}
+use mathlib.Core.Logic.{⊎-elim}
+use mathlib.Core.List.{List, [], _∷_, _++_, map}
 use native.Mathlib.Omega.{arith}
 use lib.ListN.{length, getD, drop, drop-of-length-le}
 use lib.Seq.{drop-cons}
 use Rattle.calendar.specs.Calendar.{mostHours}
-use Rattle.exact.specs.Logic.{ranked, all-at, mapped-at}
+use lib.Dec.{lit≤}
+use Rattle.exact.specs.Logic.{All, ranked, all-at, mapped-at}
 use Rattle.exact.specs.Sums.{totalOf}
 use Rattle.columns.specs.Number.{numberOf}
-use Rattle.layout.specs.Layout.{recordOf, stackWidth, valueCount, valueAt, order, earlier, countOf, bytesOf, shape}
+use Rattle.layout.specs.Layout.{dateColumn, stackWidth, valueCount, valueAt, order, earlier, countOf, bytesOf, shape}
 use Rattle.layout.specs.declared.RecordType.{RecordType}
 use Rattle.layout.specs.declared.RecordType.the-variants.{So2Concentration, NoxConcentration, Co2Concentration, VolumetricFlow, Operation}
 use Rattle.layout.specs.declared.RecordType.the-variants.{QuarterTotals, So2Mass, NoxRate, Co2Mass}
-use Rattle.layout.specs.declared.Run.the-variants.{Hourly}
 use Rattle.layout.specs.LayoutLaws.{thousands-back}
-use Rattle.layout.specs.RunLaws.{hourly-dated}
 use Rattle.totals.specs.TotalLaws.{quarter-hours}
-use Rattle.lines.specs.LineFaults.{typeIs, fieldIn}
-use Rattle.reading.specs.Recorded.{linesWith, recordsOf, valueOn, hourCount, hourAt, hoursOf, totalsIn}
-use Rattle.reading.specs.Places.{numbered}
-use Rattle.reading.specs.RunLaws.{LineRun, Typed, joined, runsFrom, order-chosen, numbered-length, numbered-at}
+use Rattle.lines.specs.Lines.{lines}
+use Rattle.lines.specs.LineFaults.{typeIs, fieldIn, operates}
+use Rattle.reading.specs.Idle.{withoutIdle}
+use Rattle.reading.specs.IdleLaws.{kept-line}
+use Rattle.reading.specs.RecordedLaws.{operation-idle, typed-idle}
+use Rattle.reading.specs.Recorded.{idle, linesWith, recordsOf, valueOn, hourCount, hourAt, hoursOf, totalsIn}
+use Rattle.reading.specs.Places.{numbered, having}
+use Rattle.reading.specs.RecordLaws.{either-type, other-records, operating-records}
+use Rattle.reading.specs.RunLaws.{LineRun, Typed, joined, runsFrom, order-chosen, numbered-length, numbered-at, having-all}
 use Rattle.sheet.specs.TestLaws.{Heading}
 use Rattle.writer.specs.Recorded.{ReportHour, recordedHours}
 use Rattle.records.specs.Records.{headed, hourValues, totalValues, totalsRecord}
@@ -29,7 +35,7 @@ use Rattle.writer.specs.Written.{hourRecord, writtenRecords, report}
 use Rattle.writer.specs.ReportLaws.{hour-records, records-count}
 use Rattle.agreement.specs.Reportable.{AllWritable}
 use Rattle.agreement.specs.RecordLaws.{framed-headed, value-back}
-use Rattle.agreement.specs.HourRecordLaws.{stamped, stamped-framed}
+use Rattle.agreement.specs.HourRecordLaws.{stamped, stamped-framed, hour-operates}
 use Rattle.agreement.specs.ReportLaws.{hour-values-within, recorded-length, formed, totals-within, recordsIn, report-lines, records-typed}
 
 abbrev noHour : ReportHour
@@ -63,32 +69,86 @@ module _ (year quarter : ℕ) (name : List ℕ) (g : Heading year quarter name) 
   runs-typed [] at = tt
   runs-typed (t ∷ ts) at = (records-typed year quarter name g named hs t, runs-typed ts (at + bytesOf (shape (length hs)) t))
 
-  -- the records of a type in the report are those that were written
-  records-back : (t : RecordType) → recordsOf file t ≡ numbered (1 + totalOf (countOf (shape (length hs))) (earlier t)) (records t)
-  unfolding recordsOf
-  records-back t =
+  -- the lines of a type in the report are the records that were written, and each of them is a record: the hours operate
+  lines-back : (t : RecordType) → linesWith (typeIs t) 1 (lines file) ≡ numbered (1 + totalOf (countOf (shape (length hs))) (earlier t)) (records t)
+  lines-back t =
       ap (linesWith (typeIs t) 1) (report-lines year quarter name g named hs ∙ runs-joined order 0)
       ∙ order-chosen (λ at t. records t) (countOf (shape (length hs))) (bytesOf (shape (length hs))) counted t 1 0 (runs-typed order 0)
 
+  all-operate : (xs : List ReportHour) → AllWritable year quarter xs → All (λ l. operates l ≡ true) (map (hourRecord year quarter name Operation) xs)
+  all-operate [] a = tt
+  all-operate (x ∷ xs) a =
+      (hour-operates year quarter name g named x (a .0 .exists) (hour-values-within Operation x (omega arith) (a .0 .within)), all-operate xs (a .1))
+
+  -- none of them is idle
+  none-idle : (t : RecordType) → AllWritable year quarter hs → All (λ l. idle l ≡ false) (records t)
+  none-idle t a = ⊎-elim others (λ e. subst (λ u. All (λ l. idle l ≡ false) (records u)) (sym e) operating) (either-type t)
+    where
+      both-all : (u : RecordType) (P : List ℕ → Type 0) → ((l : List ℕ) → typeIs u l ≡ true → P l → idle l ≡ false) → (ls : List (List ℕ)) →
+          All (λ l. typeIs u l ≡ true) ls → All P ls → All (λ l. idle l ≡ false) ls
+      both-all u P f [] t p = tt
+      both-all u P f (l ∷ ls) t p = (f l (t .0) (p .0), both-all u P f ls (t .1) (p .1))
+
+      others : (t ≡ Operation → ⊥) → All (λ l. idle l ≡ false) (records t)
+      others o = typed-all (records t) (records-typed year quarter name g named hs t)
+        where
+          typed-all : (ls : List (List ℕ)) → All (λ l. typeIs t l ≡ true) ls → All (λ l. idle l ≡ false) ls
+          typed-all [] a = tt
+          typed-all (l ∷ ls) a = (typed-idle t o l (a .0), typed-all ls (a .1))
+
+      operating : All (λ l. idle l ≡ false) (records Operation)
+      operating =
+          both-all Operation (λ l. operates l ≡ true) (λ l t o. operation-idle l t ∙ ap not o) (records Operation)
+          (records-typed year quarter name g named hs Operation)
+          (rw (hour-records year quarter name hs Operation (lit≤ tt)) (all-operate hs a))
+
+  kept-all : (ls rest : List (List ℕ)) → All (λ l. idle l ≡ false) ls → withoutIdle (ls ++ rest) ≡ ls ++ withoutIdle rest
+  kept-all [] rest a = refl
+  kept-all (l ∷ ls) rest a = kept-line l (ls ++ rest) (a .0) ∙ ap (λ (x : List (List ℕ)). l ∷ x) (kept-all ls rest (a .1))
+
+  kept-in : AllWritable year quarter hs → (ts : List RecordType) →
+      withoutIdle (recordsIn year quarter name g named hs ts) ≡ recordsIn year quarter name g named hs ts
+  unfolding withoutIdle
+  kept-in a [] = refl
+  kept-in a (t ∷ ts) =
+      kept-all (records t) (recordsIn year quarter name g named hs ts) (none-idle t a) ∙ ap (λ (x : List (List ℕ)). records t ++ x) (kept-in a ts)
+
+  -- the report lists no idle hour
+  pub lists-none : AllWritable year quarter hs → withoutIdle (lines file) ≡ lines file
+  lists-none a = let e = report-lines year quarter name g named hs in ap withoutIdle e ∙ kept-in a order ∙ sym e
+
+  records-back : (t : RecordType) → AllWritable year quarter hs →
+      recordsOf file t ≡ numbered (1 + totalOf (countOf (shape (length hs))) (earlier t)) (records t)
+  records-back t a = ⊎-elim (λ o. other-records file t o ∙ lines-back t) (λ e. subst Back (sym e) operating) (either-type t)
+    where
+      Back : RecordType → Type 0
+      Back t = recordsOf file t ≡ numbered (1 + totalOf (countOf (shape (length hs))) (earlier t)) (records t)
+
+      operating : Back Operation
+      operating =
+          operating-records file
+          ∙ ap (having operates) (lines-back Operation)
+          ∙ having-all operates (records Operation) _ (rw (hour-records year quarter name hs Operation (lit≤ tt)) (all-operate hs a))
+
   -- a value of the k-th record of a type
-  value-from : (t : RecordType) (k i : ℕ) → k < countOf (shape (length hs)) t → valueOn file t k i ≡ numberOf (fieldIn (valueAt t i) (getD (records t) k []))
+  value-from : (t : RecordType) (k i : ℕ) → AllWritable year quarter hs → k < countOf (shape (length hs)) t →
+      valueOn file t k i ≡ numberOf (fieldIn (valueAt t i) (getD (records t) k []))
   unfolding valueOn
-  value-from t k i h =
+  value-from t k i a h =
       let c : k < length (records t) = rw (counted 0 t) h in
-      rw (records-back t, numbered-at (records t) (record { number = 0; text = [] }) k (1 + totalOf (countOf (shape (length hs))) (earlier t)) c)
+      rw (records-back t a, numbered-at (records t) (record { number = 0; text = [] }) k (1 + totalOf (countOf (shape (length hs))) (earlier t)) c)
 
   -- of an hour
-  hour-value : (t : RecordType) → recordOf t .run ≡ Hourly → (k i : ℕ) → k < length hs → k < countOf (shape (length hs)) t → i < valueCount t →
+  hour-value : (t : RecordType) → 1 ≤ dateColumn t → (k i : ℕ) → k < length hs → k < countOf (shape (length hs)) t → i < valueCount t →
       AllWritable year quarter hs →
       valueOn file t k i ≡ getD (hourValues t (getD hs k noHour .recorded)) i 0
   unfolding numberOf hourRecord stamped
-  hour-value t e k i h b c a =
+  hour-value t d k i h b c a =
       let x = getD hs k noHour in
-      let d = hourly-dated t e in
       let w = all-at (HourWritable year quarter) hs noHour k a h .within in
-      value-from t k i b
+      value-from t k i a b
       ∙ ap (λ (r : List ℕ). numberOf (fieldIn (valueAt t i) r))
-      (ap (λ (rs : List (List ℕ)). getD rs k []) (hour-records year quarter name hs t e) ∙ mapped-at (hourRecord year quarter name t) hs noHour [] k h)
+      (ap (λ (rs : List (List ℕ)). getD rs k []) (hour-records year quarter name hs t d) ∙ mapped-at (hourRecord year quarter name t) hs noHour [] k h)
       ∙ ap numberOf (value-back t (hourValues t (x .recorded)) (stamped year quarter name g named t d x)
       (stamped-framed year quarter name g named t d x .long) (hour-values-within t x d w) i c)
 
@@ -98,21 +158,21 @@ module _ (year quarter : ℕ) (name : List ℕ) (g : Heading year quarter name) 
     unfolding hourAt
     hour-back k h =
         rw (
-          hour-value Operation refl k 0 h h (omega arith) a,
-          hour-value Operation refl k 1 h h (omega arith) a,
-          hour-value So2Concentration refl k 0 h h (omega arith) a,
-          hour-value NoxConcentration refl k 0 h h (omega arith) a,
-          hour-value Co2Concentration refl k 0 h h (omega arith) a,
-          hour-value VolumetricFlow refl k 0 h h (omega arith) a,
+          hour-value Operation (lit≤ tt) k 0 h h (omega arith) a,
+          hour-value Operation (lit≤ tt) k 1 h h (omega arith) a,
+          hour-value So2Concentration (lit≤ tt) k 0 h h (omega arith) a,
+          hour-value NoxConcentration (lit≤ tt) k 0 h h (omega arith) a,
+          hour-value Co2Concentration (lit≤ tt) k 0 h h (omega arith) a,
+          hour-value VolumetricFlow (lit≤ tt) k 0 h h (omega arith) a,
           thousands-back (getD hs k noHour .recorded .readings .flow),
-          hour-value NoxRate refl k 0 h h (omega arith) a,
-          hour-value So2Mass refl k 0 h h (omega arith) a,
-          hour-value NoxRate refl k 1 h h (omega arith) a,
-          hour-value Co2Mass refl k 0 h h (omega arith) a,
+          hour-value NoxRate (lit≤ tt) k 0 h h (omega arith) a,
+          hour-value So2Mass (lit≤ tt) k 0 h h (omega arith) a,
+          hour-value NoxRate (lit≤ tt) k 1 h h (omega arith) a,
+          hour-value Co2Mass (lit≤ tt) k 0 h h (omega arith) a,
         )
 
     count-back : hourCount file ≡ length hs
-    count-back = rw (records-back So2Concentration) (numbered-length (records So2Concentration) _ ∙ counted 0 So2Concentration)
+    count-back = rw (records-back So2Concentration a) (numbered-length (records So2Concentration) _ ∙ counted 0 So2Concentration)
 
     hours-from : (k left : ℕ) → k + left ≡ length hs → ranked (hourAt file) k left ≡ recordedHours (drop k hs)
     unfolding ranked
@@ -131,7 +191,7 @@ module _ (year quarter : ℕ) (name : List ℕ) (g : Heading year quarter name) 
       total-back : (i : ℕ) → i < valueCount QuarterTotals → valueOn file QuarterTotals 0 i ≡ getD (totalValues (formed hs)) i 0
       unfolding numberOf writtenRecords totalsRecord
       total-back i b =
-          value-from QuarterTotals 0 i (omega arith)
+          value-from QuarterTotals 0 i a (omega arith)
           ∙ ap numberOf (value-back QuarterTotals (totalValues (formed hs)) (headed QuarterTotals name) (framed-headed QuarterTotals name named .long)
           (totals-within year quarter hs a few) i b)
 

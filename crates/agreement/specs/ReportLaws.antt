@@ -1,6 +1,6 @@
 -- The lines of a written report are its records, in the order of their types, and pass the line checks.
-use Prim.Native.Nat.{ℕ, suc, _+_, _≤_}
-use mathlib.Core.Path.{_≡_, refl, ap, ap₂, _∙_}
+use Prim.Native.Nat.{ℕ, suc, _+_, _-_, _≤_}
+use mathlib.Core.Path.{_≡_, refl, sym, ap, ap₂, _∙_}
 use mathlib.Core.List.{List, [], _∷_, _++_, map, append-assoc, append-nil}
 use mathlib.Core.Bool.{true, false, not}
 use mathlib.Core.Logic.{_⊎_, inl, inr, ⊎-elim}
@@ -12,16 +12,17 @@ use borrow.Author.Tests.{ne-eqb, not-true}
 use Rattle.columns.specs.Bytes.{isPrintable, all}
 use Rattle.columns.specs.BytesLaws.{all-head, all-tail}
 use Rattle.calendar.specs.Calendar.{mostHours}
-use Rattle.layout.specs.Layout.{recordOf, codeOf, dateColumn, stackWidth, valuesOf, order, shape}
+use Rattle.layout.specs.Layout.{recordOf, codeOf, dateColumn, stackWidth, valuesOf, order, later, shape, shapeWith}
 use Rattle.exact.specs.Logic.{both, All}
 use Rattle.layout.specs.PlaceLaws.{joinedRuns}
-use Rattle.layout.specs.RunLaws.{once-type, hourly-dated}
+use Rattle.layout.specs.RunLaws.{once-type, hourly-dated, listed-dated}
 use Rattle.layout.specs.TypeLaws.{absent, only-once}
 use Rattle.layout.specs.declared.RecordType.{RecordType}
 use Rattle.layout.specs.declared.RecordType.the-variants.{Facility, So2Concentration, NoxConcentration, Co2Concentration, VolumetricFlow, Operation}
 use Rattle.layout.specs.declared.RecordType.the-variants.{QuarterTotals, So2Mass, NoxRate, Co2Mass}
+use Rattle.layout.specs.declared.Shape.{Shape}
 use Rattle.layout.specs.declared.Run.{Run}
-use Rattle.layout.specs.declared.Run.the-variants.{Once, Hourly}
+use Rattle.layout.specs.declared.Run.the-variants.{Once, Hourly, Listed}
 use Rattle.formulas.specs.Hour.{HourWithin, HoursWithin}
 use Rattle.stamp.specs.Stamp.{stampOf}
 use Rattle.totals.specs.Totals.{quarterTotals}
@@ -30,8 +31,9 @@ use Rattle.totals.specs.declared.Quarter.{Quarter}
 use Rattle.lines.specs.Lines.{onto, lines, last}
 use Rattle.lines.specs.LineFaults.{typeIs, dateOn, Due, dueOf, dueFault}
 use Rattle.lines.specs.FaultLaws.{type-same}
-use Rattle.reading.specs.Reading.{laterTypes, datesOf, runOf, runsOf, reportOf, walkDue, walkLater, walkHours, walk, readOf}
-use Rattle.reading.specs.CleanLaws.{Matches, ended-walked}
+use Rattle.reading.specs.Reading.{firstTypes, lastTypes, datesOf, runOf, runsOf, After, endOperations, walkOperations, walkEnd, walkLast}
+use Rattle.reading.specs.Reading.{walkListed, walkLater, walkHours, walk, readOf}
+use Rattle.reading.specs.CleanLaws.{Matches, ended-walked, matches-walked}
 use Rattle.reading.specs.declared.Report.{Report}
 use Rattle.reading.specs.declared.Reading.the-variants.{Clean}
 use Rattle.sheet.specs.TestLaws.{Heading}
@@ -41,7 +43,7 @@ use Rattle.writer.specs.Written.{hourRecord, onceRecord, runRecords, writtenRec
 use Rattle.writer.specs.ReportLaws.{records-each, records-printable}
 use Rattle.agreement.specs.Reportable.{AllWritable, Rising}
 use Rattle.agreement.specs.RecordLaws.{framed-type, ValuesWithin}
-use Rattle.agreement.specs.HourRecordLaws.{facility, period, facility-framed, facility-named, hour-framed, hour-date, hour-due, hour-named}
+use Rattle.agreement.specs.HourRecordLaws.{facility, period, facility-framed, facility-named, hour-framed, hour-date, hour-due, hour-named, operation-named}
 use Rattle.agreement.specs.HourRecordLaws.{totals-framed, totals-due}
 
 -- a line of printable bytes and its byte 10 are the first line of what follows
@@ -90,20 +92,12 @@ unfolding Closed
 closed-texts text [] = inl refl
 closed-texts text (t ∷ ts) = closed-append (lined (text t)) (joinedRuns (λ t. lined (text t)) ts) (closed-lined (text t)) (closed-texts text ts)
 
--- lines that are due and come are clean
-matches-clean : (own : Report) (first : List ℕ) (line : ℕ) (due : List Due) (ls : List (List ℕ)) → Matches first due ls →
-    walkDue own first line due ls ≡ Clean own
-unfolding walkDue
-matches-clean own first line [] [] m = refl
-matches-clean own first line [] (l ∷ ls) m = absurd m
-matches-clean own first line (d ∷ ds) [] m = absurd m
-matches-clean own first line (d ∷ ds) (l ∷ ls) m = rw (m .0, walkDue) (matches-clean own first (line + 1) ds ls (m .1))
-
-append-matches : (first : List ℕ) (ds es : List Due) (ls ms : List (List ℕ)) → Matches first ds ls → Matches first es ms → Matches first (ds ++ es) (ls ++ ms)
-append-matches first [] es [] ms p q = q
-append-matches first [] es (l ∷ ls) ms p q = absurd p
-append-matches first (d ∷ ds) es [] ms p q = absurd p
-append-matches first (d ∷ ds) es (l ∷ ls) ms p q = (p .0, append-matches first ds es ls ms (p .1) q)
+-- lines of one run and of the next
+append-matches : (first : List ℕ) (ds es : List Due) (ls mid rest : List (List ℕ)) → Matches first ds ls mid → Matches first es mid rest →
+    Matches first (ds ++ es) ls rest
+append-matches first [] es ls mid rest p q = rw p q
+append-matches first (d ∷ ds) es [] mid rest p q = absurd p
+append-matches first (d ∷ ds) es (l ∷ ls) mid rest p q = (p .0, append-matches first ds es ls mid rest (p .1) q)
 
 -- the values of an hour in the record of a type lie in their ranges
 pub hour-values-within : (t : RecordType) (h : ReportHour) → 1 ≤ dateColumn t → HourWithin (h .recorded) →
@@ -146,6 +140,11 @@ module _ (year quarter : ℕ) (name : List ℕ) (g : Heading year quarter name) 
   recordsIn [] = []
   recordsIn (t ∷ ts) = records t ++ recordsIn ts
 
+  in-append : (ts us : List RecordType) → recordsIn (ts ++ us) ≡ recordsIn ts ++ recordsIn us
+  in-append [] us = refl
+  in-append (t ∷ ts) us =
+      ap (λ (l : List (List ℕ)). records t ++ l) (in-append ts us) ∙ sym (append-assoc (records t) (recordsIn ts) (recordsIn us))
+
   lines-in : (ts : List RecordType) → lines (joinedRuns (λ t. lined (records t)) ts) ≡ recordsIn ts
   unfolding lines
   lines-in [] = refl
@@ -170,7 +169,7 @@ module _ (year quarter : ℕ) (name : List ℕ) (g : Heading year quarter name) 
       records-each year quarter name hs (λ t r. typeIs t r ≡ true)
       (framed-type Facility name _ (facility-framed year quarter name g named))
       (framed-type QuarterTotals name _ (totals-framed year quarter name g named (formed hs)))
-      (λ t e h. framed-type t name _ (hour-framed year quarter name g named t (hourly-dated t e) h))
+      (λ t d h. framed-type t name _ (hour-framed year quarter name g named t d h))
       t
 
   -- the lines of the later types are those that are due
@@ -181,16 +180,16 @@ module _ (year quarter : ℕ) (name : List ℕ) (g : Heading year quarter name) 
   first : List ℕ
   first = facility year quarter name g named
 
-  hours-due : (t : RecordType) → 1 ≤ dateColumn t → (xs : List ReportHour) → AllWritable year quarter xs →
-      Matches first (map (dueOf t) (stamps xs)) (map (hourRecord year quarter name t) xs)
+  hours-due : (t : RecordType) → 1 ≤ dateColumn t → (xs : List ReportHour) (rest : List (List ℕ)) → AllWritable year quarter xs →
+      Matches first (map (dueOf t) (stamps xs)) (map (hourRecord year quarter name t) xs ++ rest) rest
   unfolding first
-  hours-due t d [] a = tt
-  hours-due t d (x ∷ xs) a = (hour-due year quarter name g named t d x (hour-values-within t x d (a .0 .within)), hours-due t d xs (a .1))
+  hours-due t d [] rest a = refl
+  hours-due t d (x ∷ xs) rest a = (hour-due year quarter name g named t d x (hour-values-within t x d (a .0 .within)), hours-due t d xs rest (a .1))
 
   module _ (a : AllWritable year quarter hs) (few : length hs ≤ mostHours) where
-    type-due : (t : RecordType) → eqb (codeOf t) (codeOf Facility) ≡ false → Matches first (runOf t (stamps hs)) (records t)
+    type-due : (t : RecordType) (rest : List (List ℕ)) → eqb (codeOf t) (codeOf Facility) ≡ false → Matches first (runOf t (stamps hs)) (records t ++ rest) rest
     unfolding runOf writtenRecords first
-    type-due t n = go (recordOf t .run) refl
+    type-due t rest n = go (recordOf t .run) refl
       where
         one : (t ≡ Facility) ⊎ (t ≡ QuarterTotals) → dueFault first (dueOf t []) (onceRecord year quarter name hs t) ≡ 0
         one (inl e) = absurd (let f = rw e at n in let z : _≡_ {A = ℕ} 0 1 = cc in omega arith)
@@ -198,34 +197,38 @@ module _ (year quarter : ℕ) (name : List ℕ) (g : Heading year quarter name) 
 
         go : (run : Run) → recordOf t .run ≡ run →
             Matches first (map (dueOf t) (datesOf run (stamps hs)))
-            (runRecords run (onceRecord year quarter name hs t) (map (hourRecord year quarter name t) hs))
-        go Once e = (one (once-type t e), tt)
-        go Hourly e = hours-due t (hourly-dated t e) hs a
+            (runRecords run (onceRecord year quarter name hs t) (map (hourRecord year quarter name t) hs) ++ rest) rest
+        go Once e = (one (once-type t e), refl)
+        go Hourly e = hours-due t (hourly-dated t e) hs rest a
+        go Listed e = hours-due t (listed-dated t e) hs rest a
 
-    types-due : (ts : List RecordType) → absent (codeOf Facility) ts ≡ true → Matches first (runsOf ts (stamps hs)) (recordsIn ts)
+    types-due : (ts : List RecordType) (rest : List (List ℕ)) → absent (codeOf Facility) ts ≡ true →
+        Matches first (runsOf ts (stamps hs)) (recordsIn ts ++ rest) rest
     unfolding runsOf
-    types-due [] n = tt
-    types-due (t ∷ ts) n =
+    types-due [] rest n = refl
+    types-due (t ∷ ts) rest n =
         let b = both (not (eqb (codeOf t) (codeOf Facility))) (absent (codeOf Facility) ts) n in
-        append-matches first (runOf t (stamps hs)) (runsOf ts (stamps hs)) (records t) (recordsIn ts) (type-due t (not-true _ (b .0))) (types-due ts (b .1))
+        rw (append-assoc (records t) (recordsIn ts) rest)
+        (append-matches first (runOf t (stamps hs)) (runsOf ts (stamps hs)) (records t ++ (recordsIn ts ++ rest)) (recordsIn ts ++ rest) rest
+        (type-due t (recordsIn ts ++ rest) (not-true _ (b .0))) (types-due ts rest (b .1)))
 
-  -- no line of theirs is a 200 line
-  abbrev Other : List (List ℕ) → Type 0
-  Other [] = Unit {0}
-  Other (l ∷ ls) = typeIs So2Concentration l ≡ false
+  -- the first of some lines is of another type
+  abbrev Other : RecordType → List (List ℕ) → Type 0
+  Other u [] = Unit {0}
+  Other u (l ∷ ls) = typeIs u l ≡ false
 
-  later-other : (ts : List RecordType) → absent (codeOf So2Concentration) ts ≡ true → Other (recordsIn ts)
-  later-other [] n = tt
-  later-other (t ∷ ts) n =
-      let b = both (not (eqb (codeOf t) (codeOf So2Concentration))) (absent (codeOf So2Concentration) ts) n in
-      go (records t) (records-typed t) (not-true _ (b .0)) (later-other ts (b .1))
+  later-other : (u : RecordType) (ts : List RecordType) → absent (codeOf u) ts ≡ true → Other u (recordsIn ts)
+  later-other u [] n = tt
+  later-other u (t ∷ ts) n =
+      let b = both (not (eqb (codeOf t) (codeOf u))) (absent (codeOf u) ts) n in
+      go (records t) (records-typed t) (not-true _ (b .0)) (later-other u ts (b .1))
     where
-      go : (rs : List (List ℕ)) → All (λ r. typeIs t r ≡ true) rs → eqb (codeOf t) (codeOf So2Concentration) ≡ false → Other (recordsIn ts) →
-          Other (rs ++ recordsIn ts)
+      go : (rs : List (List ℕ)) → All (λ r. typeIs t r ≡ true) rs → eqb (codeOf t) (codeOf u) ≡ false → Other u (recordsIn ts) →
+          Other u (rs ++ recordsIn ts)
       go [] e f o = o
-      go (r ∷ rs) e f o = type-same t So2Concentration r (e .0) ∙ f
+      go (r ∷ rs) e f o = type-same t u r (e .0) ∙ f
 
-  stops : (line from : ℕ) (dates later : List (List ℕ)) → Other later →
+  stops : (line from : ℕ) (dates later : List (List ℕ)) → Other So2Concentration later →
       walkHours first (period year quarter name g named) line from dates later ≡ walkLater first (period year quarter name g named) line dates later
   unfolding walkHours
   stops line from dates [] o = refl
@@ -233,7 +236,7 @@ module _ (year quarter : ℕ) (name : List ℕ) (g : Heading year quarter name) 
 
   -- the 200 lines, one after the other
   hours-walked : (xs : List ReportHour) (line from : ℕ) (dates later : List (List ℕ)) → AllWritable year quarter xs →
-      Rising from xs → Other later →
+      Rising from xs → Other So2Concentration later →
       walkHours first (period year quarter name g named) line from dates (map (hourRecord year quarter name So2Concentration) xs ++ later)
       ≡ walkLater first (period year quarter name g named) (line + length xs) (dates ++ stamps xs) later
   unfolding walkHours first
@@ -244,8 +247,8 @@ module _ (year quarter : ℕ) (name : List ℕ) (g : Heading year quarter name) 
       let l = hourRecord year quarter name So2Concentration x in
       let w = hour-values-within So2Concentration x (omega arith) (a .0 .within) in
       let e : line + 1 + length xs ≡ line + suc (length xs) = omega arith in
-      let d : dates ++ (dateOn l ∷ []) ++ stamps xs ≡ dates ++ (stampOf year quarter (x .hour) ∷ stamps xs) =
-      append-assoc dates (dateOn l ∷ []) (stamps xs)
+      let d : dates ++ (dateOn So2Concentration l ∷ []) ++ stamps xs ≡ dates ++ (stampOf year quarter (x .hour) ∷ stamps xs) =
+      append-assoc dates (dateOn So2Concentration l ∷ []) (stamps xs)
       ∙ ap (λ (s : List ℕ). dates ++ (s ∷ stamps xs)) (hour-date year quarter name g named So2Concentration (omega arith) x) in
       rw (
         framed-type So2Concentration name l (hour-framed year quarter name g named So2Concentration (omega arith) x),
@@ -253,8 +256,36 @@ module _ (year quarter : ℕ) (name : List ℕ) (g : Heading year quarter name) 
         hour-named year quarter name g named x (a .0 .exists) w from (r .0),
         add-one (x .hour),
       )
-      (hours-walked xs (line + 1) (suc (x .hour)) (dates ++ (dateOn l ∷ [])) later (a .1) (r .1) o
+      (hours-walked xs (line + 1) (suc (x .hour)) (dates ++ (dateOn So2Concentration l ∷ [])) later (a .1) (r .1) o
       ∙ ap₂ (λ (n : ℕ) (s : List (List ℕ)). walkLater first (period year quarter name g named) n s later) e d)
+
+  -- the 300 lines, one after the other: none is idle
+  operations-over : (line from : ℕ) (later : List (List ℕ)) (after : After) → Other Operation later →
+      walkOperations first (period year quarter name g named) line from [] later after ≡ after line later
+  unfolding walkOperations endOperations
+  operations-over line from [] after o = refl
+  operations-over line from (l ∷ ls) after o = rw (o, walkOperations)
+
+  operations-walked : (xs : List ReportHour) (line from : ℕ) (later : List (List ℕ)) (after : After) → AllWritable year quarter xs →
+      Rising from xs → Other Operation later →
+      walkOperations first (period year quarter name g named) line from (stamps xs) (map (hourRecord year quarter name Operation) xs ++ later) after
+      ≡ after (line + length xs) later
+  unfolding walkOperations first
+  operations-walked [] line from later after a r o =
+      let e : line + 0 ≡ line = omega arith in
+      rw e (operations-over line from later after o)
+  operations-walked (x ∷ xs) line from later after a r o =
+      let l = hourRecord year quarter name Operation x in
+      let w = hour-values-within Operation x (omega arith) (a .0 .within) in
+      let e : line + 1 + length xs ≡ line + suc (length xs) = omega arith in
+      rw (
+        framed-type Operation name l (hour-framed year quarter name g named Operation (omega arith) x),
+        walkOperations,
+        operation-named year quarter name g named x (a .0 .exists) w from (r .0),
+        add-one (x .hour),
+        ← e,
+      )
+      (operations-walked xs (line + 1) (suc (x .hour)) later after (a .1) (r .1) o)
 
   module _ (a : AllWritable year quarter hs) (r : Rising 0 hs) (few : length hs ≤ mostHours) where
     abbrev pub own : Report
@@ -264,13 +295,43 @@ module _ (year quarter : ℕ) (name : List ℕ) (g : Heading year quarter name) 
     unfolding walk first
     walk-first ls = rw (facility-named year quarter name g named, walk)
 
+    stamps-length : length (stamps hs) ≡ length hs
+    stamps-length = length-map hs (λ h. stampOf year quarter (h .hour))
+
+    -- behind the 300 lines, behind the 220 lines and behind the 200 lines
+    last-clean : (s : Shape) (line : ℕ) → walkLast first (period year quarter name g named) s line (stamps hs) (recordsIn lastTypes)
+        ≡ Clean (record { period = period year quarter name g named; shape = s })
+    unfolding walkLast walkEnd
+    last-clean s line =
+        ap (λ (ls : List (List ℕ)). walkLast first (period year quarter name g named) s line (stamps hs) ls) (sym (append-nil (recordsIn lastTypes)))
+        ∙ matches-walked first line (runsOf lastTypes (stamps hs)) (recordsIn lastTypes ++ []) [] _ (types-due a few lastTypes [] refl)
+
+    listed-clean : (line : ℕ) → walkListed first (period year quarter name g named) line (stamps hs) (records Operation ++ recordsIn lastTypes) ≡ Clean own
+    unfolding walkListed writtenRecords
+    listed-clean line =
+        let z : line + length hs - line ≡ length hs = omega arith in
+        operations-walked hs line 0 (recordsIn lastTypes) _ a r (later-other Operation lastTypes refl)
+        ∙ last-clean _ (line + length hs)
+        ∙ ap₂ (λ (n m : ℕ). Clean (record { period = period year quarter name g named; shape = shapeWith n m })) stamps-length z
+
+    later-clean : (line : ℕ) → walkLater first (period year quarter name g named) line (stamps hs) (recordsIn (later So2Concentration)) ≡ Clean own
+    unfolding walkLater
+    later-clean line =
+        ap (λ (ls : List (List ℕ)). walkLater first (period year quarter name g named) line (stamps hs) ls) split
+        ∙ matches-walked first line (runsOf firstTypes (stamps hs)) (recordsIn firstTypes ++ behind) behind _ (types-due a few firstTypes behind refl)
+        ∙ listed-clean (line + length (runsOf firstTypes (stamps hs)))
+      where
+        behind : List (List ℕ)
+        behind = records Operation ++ recordsIn lastTypes
+
+        split : recordsIn (later So2Concentration) ≡ recordsIn firstTypes ++ behind
+        split = in-append firstTypes (Operation ∷ lastTypes)
+
     pub report-clean : readOf (report year quarter name hs) ≡ Clean own
-    unfolding walkLater writtenRecords first
+    unfolding writtenRecords first
     report-clean =
         ended-walked (report year quarter name hs) report-last
         ∙ ap walk report-lines
-        ∙ walk-first (records So2Concentration ++ recordsIn laterTypes)
-        ∙ hours-walked hs 2 0 [] (recordsIn laterTypes) a r (later-other laterTypes (only-once So2Concentration))
-        ∙ matches-clean (reportOf (period year quarter name g named) (stamps hs)) first (2 + length hs) (runsOf laterTypes (stamps hs))
-        (recordsIn laterTypes) (types-due a few laterTypes refl)
-        ∙ ap (λ (n : ℕ). Clean (record { period = period year quarter name g named; shape = shape n })) (length-map hs (λ h. stampOf year quarter (h .hour)))
+        ∙ walk-first (records So2Concentration ++ recordsIn (later So2Concentration))
+        ∙ hours-walked hs 2 0 [] (recordsIn (later So2Concentration)) a r (later-other So2Concentration (later So2Concentration) (only-once So2Concentration))
+        ∙ later-clean (2 + length hs)

@@ -11,26 +11,44 @@ use Rattle.layout.specs.Layout.{lineOf}
 use Rattle.formulas.specs.Formulas.{passesTest}
 use Rattle.totals.specs.Totals.{Room, noTotals, withHour, runningTotals, totalsOf, quarterOf, quarterTotals}
 use Rattle.totals.specs.TotalLaws.{grown-hours, running-totals, running-next, running-end, quarter-formed}
-use Rattle.layout.specs.declared.RecordType.the-variants.{QuarterTotals}
+use Rattle.calendar.specs.Calendar.{mostHours}
+use Rattle.layout.specs.declared.RecordType.{RecordType}
+use Rattle.layout.specs.declared.RecordType.the-variants.{Operation, QuarterTotals, So2Mass, NoxRate, Co2Mass}
 use Rattle.layout.specs.declared.Shape.{Shape}
 use Rattle.formulas.specs.declared.hour.Hour.{Hour}
 use Rattle.formulas.specs.declared.hour.Quantity.{Quantity}
+use Rattle.formulas.specs.declared.hour.Quantity.the-variants.{Heat, So2, Nox, Co2}
 use Rattle.totals.specs.declared.Totals.{Totals}
 use Rattle.totals.specs.declared.Quarter.{Quarter}
 use Rattle.reading.specs.Recorded.{Line, recordAt, hourCount, hourAt, hoursOf, totalsIn}
-use Rattle.reading.specs.Places.{Standing}
-use Rattle.reading.specs.RecordLaws.{record-at, hours-standing}
+use Rattle.reading.specs.Places.{Standing, operatingPlace}
+use Rattle.reading.specs.RecordLaws.{hours-standing}
+use Rattle.reading.specs.Places.{Stands}
+use Rattle.reading.specs.RankLaws.{hour-stands, once-stands, Ahead, ahead-next}
 use Rattle.checker.specs.Checked.{refusedAt, quantities, quantityAt, numberFor, typeFor, lineFor, judgedFigures, judgedHours, comparedTotals, judged}
-use Rattle.checker.specs.JudgedLaws.{figure-hourly}
+use Rattle.checker.specs.Judging.{placeFor}
 use Rattle.checker.specs.declared.Answer.{Answer}
 
 -- the lines of the figures and of the totals, where the layout has them
 module _ (file : List ℕ) (s : Shape) (d : Standing file s) where
-  pub figure-line : (q : Quantity) (k : ℕ) → k < s .hours → lineOf s (typeFor q) k ≡ lineFor file q k
-  figure-line q k h = sym (ap (λ (l : Line). l .number) (record-at file s d (typeFor q) k (omega (arith, figure-hourly s q))))
+  line-stands : {t : RecordType} {k p : ℕ} → Stands file s t k p → lineOf s t p ≡ recordAt file t k .number
+  line-stands e = sym (ap (λ (l : Line). l .number) (e .there))
+
+  pub figure-line : (q : Quantity) (k p : ℕ) → k < s .hours → Stands file s Operation k p → lineOf s (typeFor q) (placeFor q k p) ≡ lineFor file q k
+  figure-line Heat k p h e = line-stands e
+  figure-line So2 k p h e = line-stands (hour-stands file s d So2Mass refl k h)
+  figure-line Nox k p h e = line-stands (hour-stands file s d NoxRate refl k h)
+  figure-line Co2 k p h e = line-stands (hour-stands file s d Co2Mass refl k h)
+
+  -- both lie within the quarter's hours
+  pub place-most : (q : Quantity) (k p : ℕ) → k < s .hours → Stands file s Operation k p → placeFor q k p ≤ mostHours
+  place-most Heat k p h e = omega (arith, e .inside, d .held .operations)
+  place-most So2 k p h e = omega (arith, d .held .hours)
+  place-most Nox k p h e = omega (arith, d .held .hours)
+  place-most Co2 k p h e = omega (arith, d .held .hours)
 
   pub totals-line : lineOf s QuarterTotals 0 ≡ recordAt file QuarterTotals 0 .number
-  totals-line = sym (ap (λ (l : Line). l .number) (record-at file s d QuarterTotals 0 (omega arith)))
+  totals-line = line-stands (once-stands file s d QuarterTotals refl)
 
 module _ (file : List ℕ) (s : Shape) where
   -- what follows the hours
@@ -106,9 +124,10 @@ module _ (file : List ℕ) (s : Shape) where
   unfolding ending
   ending-is d t e = rw (quarter-formed t (hoursOf file) e, totals-line file s d)
 
--- the hour pass stands at hour k, with these totals
-pub record HourPass (file : List ℕ) (s : Shape) (totals : Totals) (k : ℕ) : Type 0 where
+-- the hour pass stands at hour k, whose 300 line is the next that operates from place p on, with these totals
+pub record HourPass (file : List ℕ) (s : Shape) (totals : Totals) (k p : ℕ) : Type 0 where
   pub few : k ≤ s .hours
+  pub ahead : Ahead file s k p
   pub room : Room totals
   pub count : totals .hours ≡ k
   pub sums : runningTotals totals (hoursLeft file s k) ≡ totalsOf (hoursOf file)
@@ -120,13 +139,16 @@ pub record FigurePass (file : List ℕ) (s : Shape) (k : ℕ) (hour : Hour) (j :
   pub rest : figuresLeft file s k hour j ≡ judged file
 
 -- hour k, whose figures all passed, was added
-pub pass-next : (file : List ℕ) (s : Shape) (t : Totals) (k : ℕ) (h : Hour) (j : ℕ) (grown : Totals) → HourPass file s t k → k < s .hours → h ≡ hourAt file k →
-    grown ≡ withHour t (h .figures) (h .time) → Room grown → FigurePass file s k h j → 4 ≤ j → HourPass file s grown (k + 1)
-pass-next file s t k h j grown p b e g r f l =
+pub pass-next : (file : List ℕ) (s : Shape) → Standing file s → (t : Totals) (k from place : ℕ) (h : Hour) (j : ℕ) (grown : Totals) →
+    HourPass file s t k from → k < s .hours →
+    place ≡ operatingPlace file s from → h ≡ hourAt file k →
+    grown ≡ withHour t (h .figures) (h .time) → Room grown → FigurePass file s k h j → 4 ≤ j → HourPass file s grown (k + 1) (place + 1)
+pass-next file s d t k from place h j grown p b q e g r f l =
     let z : j ≡ 4 = omega (arith, f .few) in
     let done = rw z at (f .rest) in
     record {
       few = omega arith;
+      ahead = ahead-next file s d k from (p .ahead) b place q;
       room = r;
       count = ap (λ (x : Totals). x .hours) g ∙ grown-hours t (h .figures) (h .time) ∙ ap (λ (n : ℕ). n + 1) (p .count);
       sums = rw (g, e) (totals-next file s t k b ∙ p .sums);
@@ -134,9 +156,10 @@ pass-next file s t k h j grown p b e g r f l =
     }
 
 -- no hour is left
-pub pass-end : (file : List ℕ) (s : Shape) (t : Totals) (k : ℕ) {line : ℕ} {formed stated : Quarter} → Standing file s → HourPass file s t k → k ≡ s .hours →
+pub pass-end : (file : List ℕ) (s : Shape) (t : Totals) (k p : ℕ) {line : ℕ} {formed stated : Quarter} → Standing file s → HourPass file s t k p →
+    k ≡ s .hours →
     line ≡ lineOf s QuarterTotals 0 → formed ≡ quarterOf t → stated ≡ totalsIn file → comparedTotals line formed stated ≡ judged file
-pass-end file s t k d p e l f g =
+pass-end file s t k place d p e l f g =
     let sums = rw e at (p .sums) in
     let rest = rw e at (p .rest) in
     rw (l, f, g) (ending-is file s d t (sym (totals-end file s t) ∙ sums) ∙ sym (left-end file s) ∙ rest)

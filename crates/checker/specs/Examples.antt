@@ -3,7 +3,7 @@ use mathlib.Core.Path.{_≡_, refl}
 use mathlib.Core.Bool.{Bool, true, _&&_}
 use lib.ListN.{take, drop}
 use mathlib.Core.List.{List, [], _∷_, _++_}
-use Prim.Native.Nat.{ℕ, _+_, _-_}
+use Prim.Native.Nat.{ℕ, _+_, _*_, _-_}
 use Rattle.exact.specs.Logic.{ranked}
 use Rattle.exact.specs.Fraction.{over}
 use Rattle.exact.specs.Behind.{meets}
@@ -13,7 +13,7 @@ use Rattle.columns.specs.Columns.{columns, put}
 use Rattle.columns.specs.Number.{digitsFrom, wholeOf, decimalsBehind, fixedOf, fieldOf, numberOf}
 use Rattle.columns.specs.Written.{digitsOf}
 use Rattle.calendar.specs.Calendar.{leapYear, daysInMonth, inQuarter, daysBefore, hourOfQuarter, quarterHour}
-use Rattle.layout.specs.Layout.{lengthOf, shape, offsetOf, within}
+use Rattle.layout.specs.Layout.{lengthOf, dateColumn, hourly, order, shape, offsetOf, within}
 use Rattle.layout.specs.declared.RecordType.{RecordType}
 use Rattle.layout.specs.declared.RecordType.the-variants.{So2Concentration, NoxConcentration, Co2Concentration, VolumetricFlow, Operation}
 use Rattle.layout.specs.declared.RecordType.the-variants.{QuarterTotals, So2Mass, NoxRate, Co2Mass}
@@ -22,9 +22,11 @@ use Rattle.formulas.specs.Formulas.{passesTest}
 use Rattle.totals.specs.Totals.{totalsOf, meanOf, quarterOf, quarterTotals}
 use Rattle.lines.specs.Lines.{onto, lines, last}
 use Rattle.lines.specs.LineFaults.{typeIs, shapeFault, stackFault, commonFault, fieldFault, valuesFault, digitsIn}
-use Rattle.lines.specs.LineFaults.{facilityFault, facilityLine, risingFault, hourFault, hourNumber, hourLine, dateFault, dueFault}
-use Rattle.reading.specs.Reading.{runOf, runsOf, walkDue, walkLater, walkHours, walk, readOf}
-use Rattle.reading.specs.Recorded.{linesWith, recordsOf, valueOn, hourAt, hoursOf, totalsIn}
+use Rattle.lines.specs.LineFaults.{facilityFault, facilityLine, risingFault, datedFault, hourFault, hourNumber, hourLine, dateFault, dueFault}
+use Rattle.lines.specs.LineFaults.{operates, idleFault, operatingFault, timedFault, operationFault, saidOf, operationLine}
+use Rattle.reading.specs.Reading.{runOf, runsOf, walkDue, endOperations, walkOperations, walkEnd, walkLast, walkListed, walkLater, walkHours, walk, readOf}
+use Rattle.reading.specs.Idle.{withoutIdle, WithoutIdle}
+use Rattle.reading.specs.Recorded.{linesWith, idle, recordsOf, valueOn, hourAt, hoursOf, totalsIn}
 use Rattle.checker.specs.Checked.{refusal, numbersOf, judgedFigures, judgedHours, firstDiffering, comparedTotals, judged, afterReading, checked}
 
 -- one hour at 2005 quarter 3, hour 0, time 0.50, SO2 250.0, NOx 200.0, CO2 12.0, flow 20,000,000, Fc 1,800.0
@@ -107,7 +109,8 @@ damages =
     ∷ record { file = take (start Co2Concentration + 33) workedHour ++ drop (start VolumetricFlow - 1) workedHour; number = 3; line = 4 }
     -- byte 127 in a column of 201 that is not read
     ∷ record { file = changed NoxConcentration 10 (127 ∷ []); number = 4; line = 3 }
-    -- XTACK1 on 220
+    -- XTACK1 on 200, and on 220
+    ∷ record { file = changed So2Concentration 4 (88 ∷ []); number = 5; line = 2 }
     ∷ record { file = changed VolumetricFlow 4 (88 ∷ []); number = 5; line = 5 }
     -- month 13 on 200
     ∷ record { file = changed So2Concentration 18 (49 ∷ 51 ∷ []); number = 6; line = 2 }
@@ -131,6 +134,77 @@ damages =
     ∷ record { file = changed QuarterTotals 39 (57 ∷ []); number = 23; line = 7 }
     ∷ []
 
+-- 300 lines of 1 July 2005, by the last digit of the hour: an idle hour, one with heat 0.0, and one that operates with heat 1,333.3 or 1,933.3
+
+unfoldable pub listed : ℕ → (timeToHeat : List ℕ) → List ℕ
+listed digit timeToHeat =
+    -- 300STACK10507010
+    (51 ∷ 48 ∷ 48 ∷ 83 ∷ 84 ∷ 65 ∷ 67 ∷ 75 ∷ 49 ∷ 48 ∷ 53 ∷ 48 ∷ 55 ∷ 48 ∷ 49 ∷ 48 ∷ (48 + digit) ∷ []) ++ timeToHeat ++ (10 ∷ [])
+
+abbrev pub idleLine : ℕ → List ℕ
+idleLine digit = listed digit (48 ∷ 46 ∷ 48 ∷ 48 ∷ 32 ∷ 32 ∷ 32 ∷ 32 ∷ 32 ∷ 32 ∷ 32 ∷ 32 ∷ 32 ∷ 32 ∷ 32 ∷ 32 ∷ 32 ∷ 32 ∷ 32 ∷ 32 ∷ 32 ∷ 32 ∷ 32 ∷ 32 ∷ 32 ∷ [])
+
+abbrev pub heatedIdleLine : ℕ → List ℕ
+heatedIdleLine digit = listed digit
+    (48 ∷ 46 ∷ 48 ∷ 48 ∷ 32 ∷ 32 ∷ 32 ∷ 32 ∷ 32 ∷ 32 ∷ 32 ∷ 32 ∷ 32 ∷ 32 ∷ 32 ∷ 32 ∷ 32 ∷ 32 ∷ 32 ∷ 32 ∷ 32 ∷ 32 ∷ 48 ∷ 46 ∷ 48 ∷ [])
+
+abbrev pub operatingLine : ℕ → List ℕ
+operatingLine digit = listed digit
+    (48 ∷ 46 ∷ 53 ∷ 48 ∷ 32 ∷ 32 ∷ 32 ∷ 32 ∷ 32 ∷ 32 ∷ 32 ∷ 32 ∷ 32 ∷ 32 ∷ 32 ∷ 32 ∷ 32 ∷ 32 ∷ 32 ∷ 49 ∷ 51 ∷ 51 ∷ 51 ∷ 46 ∷ 51 ∷ [])
+
+abbrev pub wrongHeatLine : ℕ → List ℕ
+wrongHeatLine digit = listed digit
+    (48 ∷ 46 ∷ 53 ∷ 48 ∷ 32 ∷ 32 ∷ 32 ∷ 32 ∷ 32 ∷ 32 ∷ 32 ∷ 32 ∷ 32 ∷ 32 ∷ 32 ∷ 32 ∷ 32 ∷ 32 ∷ 32 ∷ 49 ∷ 57 ∷ 51 ∷ 51 ∷ 46 ∷ 51 ∷ [])
+
+-- the worked hour as hour 01, with these bytes for its 300 line, and the empty quarter with these bytes behind line 100
+
+abbrev pub hourLater : List RecordType → List ℕ → List ℕ
+hourLater [] file = file
+hourLater (t ∷ ts) file = put (start t + dateColumn t + 7) (49 ∷ []) (hourLater ts file)
+
+unfoldable pub withListed : List ℕ → List ℕ
+withListed ls = let file = hourLater (hourly order) workedHour in take (start Operation) file ++ ls ++ drop (start QuarterTotals) file
+
+unfoldable pub emptyListed : List ℕ → List ℕ
+emptyListed ls = take (start So2Concentration) emptyQuarter ++ ls ++ drop (start So2Concentration) emptyQuarter
+
+abbrev pub twoLines : ℕ
+twoLines = 2 * (lengthOf Operation + 1)
+
+abbrev pub idleDamages : List Damage
+idleDamages =
+    -- heat input 1,933.3 behind an idle line: on its own line
+    record { file = withListed (idleLine 0 ++ wrongHeatLine 1); number = 11; line = 7 }
+    -- a second operating hour behind an idle line, where there is one; the first operates too early
+    ∷ record { file = withListed (operatingLine 1 ++ idleLine 2 ++ operatingLine 3); number = 7; line = 8 }
+    ∷ record { file = withListed (operatingLine 0 ++ idleLine 1); number = 7; line = 6 }
+    -- heat 0.0 at time 0.00, in front of the hour and behind it
+    ∷ record { file = withListed (heatedIdleLine 0 ++ operatingLine 1); number = 47; line = 6 }
+    ∷ record { file = withListed (operatingLine 1 ++ idleLine 2 ++ heatedIdleLine 3); number = 47; line = 8 }
+    -- an idle line for the hour before it, and an operating line for an idle hour
+    ∷ record { file = withListed (operatingLine 1 ++ idleLine 1); number = 6; line = 7 }
+    ∷ record { file = withListed (idleLine 1 ++ operatingLine 1); number = 6; line = 7 }
+    ∷ record { file = withListed (idleLine 0 ++ operatingLine 1 ++ idleLine 3 ++ idleLine 2); number = 6; line = 9 }
+    -- the hour is listed as idle: 301 comes too early
+    ∷ record { file = withListed (idleLine 1 ++ idleLine 2); number = 2; line = 8 }
+    -- the file ends there
+    ∷ record { file = take (start Operation) (withListed []) ++ idleLine 0; number = 10; line = 7 }
+    -- a 200 line behind an idle one
+    ∷ record { file = emptyListed (idleLine 0 ++ take (lengthOf So2Concentration + 1) (drop (start So2Concentration) workedHour)); number = 2; line = 3 }
+    -- an operating hour where none has a 200 line
+    ∷ record { file = emptyListed (idleLine 0 ++ operatingLine 1); number = 7; line = 3 }
+    -- 301 is missing behind an idle line
+    ∷ record { file = take (start QuarterTotals + lengthOf Operation + 1) (withListed (operatingLine 1 ++ idleLine 2)); number = 10; line = 8 }
+    -- SO2 930.0 on its 310 line, and heat total 966.7, behind two idle lines
+    ∷ record { file = put (start So2Mass + twoLines + 27) (57 ∷ []) (withListed (idleLine 0 ++ operatingLine 1 ++ idleLine 2)); number = 12; line = 10 }
+    ∷ record { file = put (start QuarterTotals + twoLines + 39) (57 ∷ []) (withListed (idleLine 0 ++ operatingLine 1 ++ idleLine 2)); number = 23; line = 9 }
+    ∷ []
+
+-- without its idle lines a file is another
+pub idle-left-out : WithoutIdle (withListed (idleLine 0 ++ operatingLine 1 ++ idleLine 2)) (withListed (operatingLine 1))
+unfolding workedHour put listed withListed digitsOf same onto lines last typeIs columns digitsFrom wholeOf decimalsBehind fixedOf fieldOf numberOf operates idle withoutIdle
+idle-left-out = record { lines = refl; last = refl }
+
 unfoldable pub allAnswered : List (List ℕ) → List ℕ → Bool
 allAnswered [] numbers = true
 allAnswered (f ∷ fs) numbers = same (numbersOf (checked f)) numbers && allAnswered fs numbers
@@ -139,15 +213,22 @@ unfoldable pub allNamed : List Damage → Bool
 allNamed [] = true
 allNamed (d ∷ ds) = same (numbersOf (checked (d .file))) (refusal (d .number) (d .line)) && allNamed ds
 
--- what the check answers to the worked hour (also with 829.8, 830.1 and 830.2 lb/hr), to the empty quarter and to the damaged files
+-- what the check answers to the worked hour (also with 829.8, 830.1 and 830.2 lb/hr, and with idle hours about it), to the empty quarter (also
+-- with idle hours alone) and to the damaged files
 pub answers : (numbersOf (checked workedHour) ≡ 1 ∷ 2 ∷ 684 ∷ 6667 ∷ 358 ∷ [])
     × (allAnswered (lowest ∷ between ∷ highest ∷ []) (1 ∷ 2 ∷ 684 ∷ 6667 ∷ 358 ∷ []) ≡ true)
     × (numbersOf (checked emptyQuarter) ≡ 0 ∷ 0 ∷ 0 ∷ 0 ∷ 0 ∷ [])
     × (allNamed damages ≡ true)
-unfolding workedHour emptyQuarter allAnswered allNamed put
+    × (allAnswered (withListed (operatingLine 1) ∷ withListed (idleLine 0 ++ operatingLine 1) ∷ withListed
+    (idleLine 0 ++ operatingLine 1 ++ idleLine 2 ++ idleLine 9) ∷ [])
+    (1 ∷ 2 ∷ 684 ∷ 6667 ∷ 358 ∷ []) ≡ true)
+    × (numbersOf (checked (emptyListed (idleLine 0 ++ idleLine 1 ++ idleLine 9))) ≡ 0 ∷ 0 ∷ 0 ∷ 0 ∷ 0 ∷ [])
+    × (allNamed idleDamages ≡ true)
+unfolding workedHour emptyQuarter allAnswered allNamed put listed withListed emptyListed
     over meets totalOf all same columns digitsFrom wholeOf decimalsBehind fixedOf fieldOf numberOf digitsOf leapYear daysInMonth inQuarter daysBefore
     hourOfQuarter quarterHour numberHour fieldHour stampHour passesTest totalsOf meanOf quarterOf quarterTotals onto lines last typeIs shapeFault
-    stackFault commonFault within fieldFault valuesFault digitsIn facilityFault facilityLine risingFault hourFault hourNumber hourLine dateFault
-    dueFault runOf runsOf walkDue walkLater walkHours walk readOf linesWith recordsOf valueOn hourAt ranked hoursOf totalsIn judgedFigures
-    judgedHours firstDiffering comparedTotals judged afterReading checked
-answers = (refl, refl, refl, refl)
+    stackFault commonFault within fieldFault valuesFault digitsIn facilityFault facilityLine risingFault datedFault hourFault hourNumber hourLine dateFault
+    dueFault operates idleFault operatingFault timedFault operationFault saidOf operationLine runOf runsOf walkDue endOperations walkOperations walkEnd
+    walkLast walkListed walkLater walkHours walk readOf linesWith idle recordsOf valueOn hourAt ranked hoursOf totalsIn judgedFigures judgedHours
+    firstDiffering comparedTotals judged afterReading checked
+answers = (refl, refl, refl, refl, refl, refl, refl)

@@ -9,7 +9,7 @@ use lib.Dec.{eqb, lit≤}
 use borrow.Author.Tests.{eqb-true, eqb-false, eq-eqb}
 use Rattle.exact.specs.Logic.{ranked, All}
 use Rattle.formulas.specs.Formulas.{passesTest}
-use Rattle.layout.specs.Layout.{countOf}
+use Rattle.layout.specs.Layout.{countOf, shape}
 use Rattle.layout.specs.declared.Shape.{Shape}
 use Rattle.formulas.specs.declared.hour.Hour.{Hour}
 use Rattle.formulas.specs.declared.hour.Quantity.{Quantity}
@@ -260,7 +260,7 @@ number-high q number at line e h = apart q (rw (same-number number at (numberFor
     apart Co2 = false≢true
 
 -- every hour has a line of a figure's type
-pub figure-hourly : (s : Shape) (q : Quantity) → countOf s (typeFor q) ≡ s .hours
+pub figure-hourly : (s : Shape) (q : Quantity) → countOf (shape (s .hours)) (typeFor q) ≡ s .hours
 figure-hourly s Heat = refl
 figure-hourly s So2 = refl
 figure-hourly s Nox = refl

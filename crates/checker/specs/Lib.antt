@@ -4,6 +4,8 @@ pub mod Promise
 pub mod JudgedLaws
 pub mod BoundLaws
 pub mod PromiseLaws
+pub mod Idle
+pub mod IdleLaws
 pub mod Table
 pub mod TableLaws
 pub mod Examples

@@ -3,6 +3,7 @@
 -- refused only where nothing unrounded lies behind it, and a total only where it differs from the one formed. PromiseLaws.antt proves it.
 use Prim.Native.Nat.{ℕ, _<_}
 use mathlib.Core.Path.{_≡_}
+use mathlib.Core.Bool.{_&&_}
 use mathlib.Core.List.{List, [], _∷_}
 use lib.Dec.{lit<}
 use mathlib.Core.Logic.{_⊎_}
@@ -13,13 +14,15 @@ use Rattle.exact.specs.Rounding.{recorded}
 use Rattle.formulas.specs.Hour.{tenth, thousandth, Unrounded}
 use Rattle.formulas.specs.Formulas.{Pair, pairOf, exactValue, LiesBehind}
 use Rattle.totals.specs.Totals.{poundsPerTon, quarterTotals}
-use Rattle.layout.specs.declared.RecordType.the-variants.{QuarterTotals}
+use Rattle.layout.specs.declared.RecordType.the-variants.{Operation, QuarterTotals}
 use Rattle.formulas.specs.declared.hour.Hour.{Hour}
 use Rattle.formulas.specs.declared.hour.Quantity.{Quantity}
 use Rattle.formulas.specs.declared.hour.Quantity.the-variants.{Heat, So2, Nox, Co2}
 use Rattle.totals.specs.declared.Quarter.{Quarter}
 use Rattle.reading.specs.Reading.{readOf}
-use Rattle.reading.specs.Recorded.{recordAt, hourCount, hourAt, hoursOf, totalsIn}
+use Rattle.lines.specs.Lines.{lines}
+use Rattle.lines.specs.LineFaults.{typeIs, operates}
+use Rattle.reading.specs.Recorded.{Line, linesWith, recordAt, hourCount, hourAt, hoursOf, totalsIn}
 use Rattle.reading.specs.declared.Reading.the-variants.{Clean}
 use Rattle.reading.specs.declared.Report.{Report}
 use Rattle.checker.specs.Checked.{Stated, statedTotals, acceptance, refusal, numbersOf, numberFor, lineFor}
@@ -80,6 +83,10 @@ allowed So2 n = fraction 1 20 (lit< tt) ⊕ fraction n 40_000 (lit< tt)
 allowed Nox n = fraction 1 1000 (lit< tt)
 allowed Co2 n = fraction 1 20 (lit< tt) ⊕ fraction n 20 (lit< tt)
 
+-- the 300 lines with a positive time
+abbrev pub operatingLines : List ℕ → List Line
+operatingLines file = linesWith (λ l. typeIs Operation l && operates l) 1 (lines file)
+
 -- a figure of the file behind which nothing lies, on its line
 pub record FailsAt (file : List ℕ) (q : Quantity) (line : ℕ) : Type 0 where
   pub report : Report
@@ -110,5 +117,6 @@ pub record Promise (file : List ℕ) (answer : Answer) : Type 0 where
   pub rightly : (q : Quantity) (line : ℕ) → numbersOf answer ≡ refusal (numberFor q) line → FailsAt file q line
   pub differs : All (λ (t : Stated). (line : ℕ) → numbersOf answer ≡ refusal (t .number) line → DiffersAt file (t .number) line) statedTotals
   pub count : (r : Quarter) → numbersOf answer ≡ acceptance r → r .hours ≡ hourCount file
+  pub operating : (r : Quarter) → numbersOf answer ≡ acceptance r → r .hours ≡ length (operatingLines file)
   pub formed : (r : Quarter) → numbersOf answer ≡ acceptance r → r ≡ quarterTotals (hoursOf file)
   pub totals : (r : Quarter) → numbersOf answer ≡ acceptance r → r ≡ totalsIn file

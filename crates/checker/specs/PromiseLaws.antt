@@ -23,13 +23,13 @@ use Rattle.lines.specs.Shows.{ofLineChecks}
 use Rattle.reading.specs.Reading.{readOf}
 use Rattle.reading.specs.Recorded.{recordAt, hourCount, hourAt, hoursOf, totalsIn}
 use Rattle.reading.specs.CleanFile.{CleanFile, clean-file, clean-hour}
-use Rattle.reading.specs.RecordLaws.{hours-standing}
+use Rattle.reading.specs.RecordLaws.{hours-standing, operating-lines}
 use Rattle.reading.specs.RefusalLaws.{refused-number}
 use Rattle.reading.specs.declared.Report.{Report}
 use Rattle.reading.specs.declared.Reading.{Reading}
 use Rattle.reading.specs.declared.Reading.the-variants.{Clean, Refused as Stopped}
 use Rattle.checker.specs.Checked.{Stated, statedTotals, acceptance, refusal, numbersOf, refusedAt, numberFor, comparedTotals, judged, afterReading, checked}
-use Rattle.checker.specs.Promise.{LieBehind, SetsBehind, HonestlyRounded, exactAmount, reported, allowed, FailsAt, DiffersAt, Promise}
+use Rattle.checker.specs.Promise.{LieBehind, SetsBehind, HonestlyRounded, exactAmount, reported, allowed, operatingLines, FailsAt, DiffersAt, Promise}
 use Rattle.checker.specs.JudgedLaws.{never-accepted, same-number, Passes, AllPass, hours-accepted, hours-pass, Failing, hours-refused, hours-over}
 use Rattle.checker.specs.JudgedLaws.{numbers-high, numbers-apart, Agree, all-agree, totals-accepted, totals-agree, totals-differ, totals-refused, number-high}
 use Rattle.checker.specs.BoundLaws.{amount-bound}
@@ -63,17 +63,17 @@ behind-pass (h ∷ hs) [] w b = absurd b
 behind-pass (h ∷ hs) (s ∷ ss) w b = ((λ q. test-exact q h (w .0 .readings) .1 (pairOf q s, b .0 q)), behind-pass hs ss (w .1) (b .1))
 
 -- what an acceptance says
-record Facts (file : List ℕ) (r : Quarter) : Type 0 where
-  report : Report
-  clean : readOf file ≡ Clean report
-  pass : AllPass (hoursOf file)
-  formed : quarterTotals (hoursOf file) ≡ r
-  agree : Agree (quarterTotals (hoursOf file)) (totalsIn file)
+pub record Facts (file : List ℕ) (r : Quarter) : Type 0 where
+  pub report : Report
+  pub clean : readOf file ≡ Clean report
+  pub pass : AllPass (hoursOf file)
+  pub formed : quarterTotals (hoursOf file) ≡ r
+  pub agree : Agree (quarterTotals (hoursOf file)) (totalsIn file)
 
 formed-hours : (file : List ℕ) → quarterTotals (hoursOf file) .hours ≡ hourCount file
 formed-hours file = quarter-hours (hoursOf file) ∙ hours-count file
 
-accepted-facts : (file : List ℕ) (r : Quarter) → checked file ≡ Accepted r → Facts file r
+pub accepted-facts : (file : List ℕ) (r : Quarter) → checked file ≡ Accepted r → Facts file r
 unfolding checked afterReading judged
 accepted-facts file r e = go (readOf file) refl e
   where
@@ -85,15 +85,26 @@ accepted-facts file r e = go (readOf file) refl e
         record { report = report; clean = c; pass = h .0; formed = t .0; agree = t .1 }
     go (Stopped x) c w = never-accepted (x .number) (x .line) r w
 
+-- a file of which they hold is accepted with these totals
+pub facts-accepted : (file : List ℕ) (r : Quarter) → Facts file r → checked file ≡ Accepted r
+unfolding checked afterReading judged
+facts-accepted file r f =
+    let hs = hoursOf file in
+    ap (afterReading file) (f .clean)
+    ∙ hours-pass file 0 hs _ (f .pass)
+    ∙ totals-agree (quarterTotals hs) (totalsIn file) (recordAt file QuarterTotals 0 .number) (f .agree)
+    ∙ ap Accepted (f .formed)
+
 -- an honest file is accepted with the totals formed
 pub honest-checked : (file : List ℕ) (sets : List Unrounded) → HonestlyRounded file sets → checked file ≡ Accepted (quarterTotals (hoursOf file))
-unfolding checked afterReading judged
 honest-checked file sets h =
-    let hs = hoursOf file in
-    let p = behind-pass hs sets (all-within file (h .report) (clean-file file (h .report) (h .clean))) (h .behind) in
-    ap (afterReading file) (h .clean)
-    ∙ hours-pass file 0 hs _ p
-    ∙ totals-agree (quarterTotals hs) (totalsIn file) (recordAt file QuarterTotals 0 .number) (all-agree statedTotals (sym (h .totals)))
+    facts-accepted file (quarterTotals (hoursOf file)) (record {
+      report = h .report;
+      clean = h .clean;
+      pass = behind-pass (hoursOf file) sets (all-within file (h .report) (clean-file file (h .report) (h .clean))) (h .behind);
+      formed = refl;
+      agree = all-agree statedTotals (sym (h .totals));
+    })
 
 same-quarter : (f s : Quarter) → f .hours ≡ s .hours → Agree f s → f ≡ s
 same-quarter f s h a = λ i. record { hours = h i; so2 = a .0 i; co2 = a .1 .0 i; heat = a .1 .1 .0 i; nox = a .1 .1 .1 .0 i }
@@ -145,6 +156,13 @@ module _ (file : List ℕ) (r : Quarter) (e : checked file ≡ Accepted r) where
   accepted-count : r .hours ≡ hourCount file
   accepted-count = ap (λ (y : Quarter). y .hours) (sym (accepted-facts file r e .formed)) ∙ formed-hours file
 
+  -- as many 300 lines have a positive time
+  accepted-operating : r .hours ≡ length (operatingLines file)
+  accepted-operating =
+      let f = accepted-facts file r e in
+      let d = clean-file file (f .report) (f .clean) .standing in
+      accepted-count ∙ hours-standing file (f .report .shape) d ∙ sym (d .operating) ∙ ap length (operating-lines file)
+
   accepted-bounds : (q : Quantity) (es : List Pair) → LieBehind q (hoursOf file) es →
       Near (exactAmount q (hoursOf file) es) (reported q r) (allowed q (r .hours))
   accepted-bounds q es b =
@@ -157,7 +175,7 @@ module _ (file : List ℕ) (r : Quarter) (e : checked file ≡ Accepted r) where
   accepted-totals = let f = accepted-facts file r e in same-quarter r (totalsIn file) accepted-count (rw (f .formed) at (f .agree))
 
 -- the numbers that an answer says determine it
-accepts : (answer : Answer) (r : Quarter) → numbersOf answer ≡ acceptance r → answer ≡ Accepted r
+pub accepts : (answer : Answer) (r : Quarter) → numbersOf answer ≡ acceptance r → answer ≡ Accepted r
 accepts (Accepted q) r e =
     let at : (k : ℕ) → getD (acceptance q) k 0 ≡ getD (acceptance r) k 0 = λ k. ap (λ (l : List ℕ). getD l k 0) e in
     ap Accepted (same-quarter q r (at 0) (at 1, (at 2, (at 3, (at 4, tt)))))
@@ -188,6 +206,7 @@ promise file =
       rightly = λ q line e. refused-rightly file q line (refuses (checked file) (numberFor q) line e);
       differs = each statedTotals numbers-high numbers-apart;
       count = λ r e. accepted-count file r (yes r e);
+      operating = λ r e. accepted-operating file r (yes r e);
       formed = λ r e. sym (accepted-facts file r (yes r e) .formed);
       totals = λ r e. accepted-totals file r (yes r e);
     }

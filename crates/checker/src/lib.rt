@@ -12,7 +12,7 @@ ghost use lib.Dec.{eqb};
 ghost use Rattle.exact.specs.Faults.{_orElse_, unless};
 ghost use Rattle.checker.specs.Checked.{refusedAt, quantityAt, typeFor, totalsFault, comparedTotals, judged, checked};
 ghost use Rattle.checker.specs.Promise.{Promise};
-ghost use Rattle.checker.specs.Judging.{Judgeable};
+ghost use Rattle.checker.specs.Judging.{placeFor, Judgeable};
 
 // An acceptance, with the operating hours and totals, or a refusal.
 pub enum Answer {
@@ -41,6 +41,18 @@ fn type_for(q: Quantity) -> RecordType
         Quantity::So2 => RecordType::So2Mass,
         Quantity::Nox => RecordType::NoxRate,
         Quantity::Co2 => RecordType::Co2Mass,
+    }
+}
+
+// The place of that line in its type's run: a 300 line has its own, every other stands at its hour's rank.
+fn place_for(q: Quantity, rank: usize, place: usize) -> usize
+    ensures { λ r. ⌜ r ≡ placeFor q rank place ⌝ }
+{
+    match q {
+        Quantity::Heat => place,
+        Quantity::So2 => rank,
+        Quantity::Nox => rank,
+        Quantity::Co2 => rank,
     }
 }
 
@@ -84,8 +96,8 @@ fn compare(line: usize, formed: Quarter, stated: Quarter) -> Answer
     refused(number, line)
 }
 
-// The hours of a file of a shape whose lines are right, and its totals. The hour pass is abandoned at the first figure
-// that fails; it yields that figure's refusal, or the number 0.
+// The hours of a file of a shape whose lines are right, and its totals. The hour pass carries the place of the next 300 line beside the rank.
+// It is abandoned at the first figure that fails; it yields that figure's refusal, or the number 0.
 fn judge(file: &[u8], s: Shape) -> Answer
     requires { ⌜ Judgeable (now file) s ⌝ }
     ensures { λ r. ⌜ r ≡ judged (now (file .entry)) ⌝ }
@@ -93,24 +105,27 @@ fn judge(file: &[u8], s: Shape) -> Answer
     let hours = s.hours;
     let mut totals = Totals::none();
     let mut k: usize = 0;
+    let mut from: usize = 0;
     let failed = 'hours: loop {
         if k == hours {
             break 'hours Refusal { number: 0, line: 0 };
         }
-        let hour = recorded::hour(file, s, k);
+        let at = recorded::operating_from(file, s, from);
+        let hour = recorded::hour(file, s, k, at);
         let mut j: usize = 0;
         while j < 4 {
             let q = quantity_at(j);
             if !formulas::figure_passes(q, hour) {
                 break 'hours Refusal {
                     number: 11 + j as u64,
-                    line: layout::line_of(s, type_for(q), k),
+                    line: layout::line_of(s, type_for(q), place_for(q, k, at.place)),
                 };
             }
             j += 1;
         }
         totals = totals.with_hour(hour.figures, hour.time);
         k += 1;
+        from = at.place + 1;
     };
     if failed.number != 0 {
         return Answer::Refused(failed);

@@ -14,7 +14,7 @@ use Rattle.layout.specs.declared.RecordType.the-variants.{Operation, Qua
 use Rattle.layout.specs.declared.Value.{Value}
 use Rattle.layout.specs.declared.Shape.{Shape}
 use Rattle.layout.specs.declared.Run.{Run}
-use Rattle.layout.specs.declared.Run.the-variants.{Once, Hourly}
+use Rattle.layout.specs.declared.Run.the-variants.{Once, Hourly, Listed}
 use Rattle.layout.specs.declared.Row.{Row}
 use Rattle.layout.specs.declared.Front.{Front}
 
@@ -79,8 +79,12 @@ thousandsOf scfh = scfh / flowScfh .step
 abbrev pub scfhOf : ℕ → ℕ
 scfhOf thousands = flowScfh .step * thousands
 
+-- the time of an operating hour, and that of any hour which is listed: an idle one has 0.00
 abbrev pub timeHours : Value
 timeHours = rangedValue 18 4 2 1 100
+
+abbrev pub listedTime : Value
+listedTime = rangedValue (timeHours .start) (timeHours .width) (timeHours .decimals) 0 (timeHours .most)
 
 abbrev pub heatRate : Value
 heatRate = anyDecimal 36 7 1
@@ -109,14 +113,18 @@ noxRate = anyDecimal 36 6 3
 abbrev pub co2Rate : Value
 co2Rate = anyDecimal 18 7 1
 
--- a report of so many operating hours
+-- a report of so many operating hours and so many 300 lines, and one that lists no other hour
+abbrev pub shapeWith : (hours operations : ℕ) → Shape
+shapeWith n m = record { hours = n; operations = m }
+
 abbrev pub shape : ℕ → Shape
-shape n = record { hours = n }
+shape n = shapeWith n n
 
 -- how many lines a run has in a report of a shape
 abbrev pub linesOf : Run → Shape → ℕ
 linesOf Once s = 1
 linesOf Hourly s = s .hours
+linesOf Listed s = s .operations
 
 -- a type's code; its length without byte 10; where date and hour start (0 where it has none); its run of lines; its values, left to right
 pub record Record : Type 0 where
@@ -135,7 +143,7 @@ recordOf So2Concentration = row 200 40 16 Hourly (so2Ppm ∷ [])
 recordOf NoxConcentration = row 201 34 16 Hourly (noxPpm ∷ [])
 recordOf Co2Concentration = row 202 34 16 Hourly (co2Percent ∷ [])
 recordOf VolumetricFlow = row 220 48 16 Hourly (flowScfh ∷ [])
-recordOf Operation = row 300 42 10 Hourly (timeHours ∷ heatRate ∷ [])
+recordOf Operation = row 300 42 10 Listed (timeHours ∷ heatRate ∷ [])
 recordOf QuarterTotals = row 301 48 0 Once (so2Tons ∷ co2Tons ∷ heatTotal ∷ noxMean ∷ [])
 recordOf So2Mass = row 310 34 10 Hourly (so2Rate ∷ [])
 recordOf NoxRate = row 320 54 13 Hourly (fFactor ∷ noxRate ∷ [])
@@ -186,17 +194,21 @@ rankOf t = placeOf (codeOf t) order
 abbrev pub typeAt : ℕ → RecordType
 typeAt place = getD order place Facility
 
--- the types in front of one, and those behind it
+-- the types in front of one, those behind it, and those between two
 abbrev pub earlier : RecordType → List RecordType
 earlier t = take (rankOf t) order
 
 abbrev pub later : RecordType → List RecordType
 later t = drop (rankOf t + 1) order
 
+abbrev pub typesBetween : RecordType → RecordType → List RecordType
+typesBetween t u = drop (rankOf t + 1) (earlier u)
+
 -- those of which every operating hour has a line
 abbrev pub keepHourly : Run → RecordType → List RecordType → List RecordType
 keepHourly Once t ts = ts
 keepHourly Hourly t ts = t ∷ ts
+keepHourly Listed t ts = t ∷ ts
 
 abbrev pub hourly : List RecordType → List RecordType
 hourly [] = []
@@ -237,6 +249,7 @@ reportLength s = totalOf (bytesOf s) order
 -- the counts of a quarter
 pub record Held (s : Shape) : Type 0 where
   pub hours : s .hours ≤ mostHours
+  pub operations : s .operations ≤ mostHours
 
 -- a number of a value's range
 abbrev pub Between : Value → ℕ → Type 0

@@ -1,4 +1,5 @@
--- What is proved of the table and the order: a test over all rows holds of each; a report of n operating hours has 64 + 318 × n bytes.
+-- What is proved of the table and the order: a test over all rows holds of each; a report of n operating hours with m
+-- 300 lines has 64 + 275 × n + 43 × m bytes.
 use mathlib.Core.Path.{_≡_, refl, sym, ap, _∙_}
 use mathlib.Core.Bool.{Bool, true, _&&_}
 use mathlib.Core.List.{List, [], _∷_}
@@ -17,7 +18,7 @@ use Rattle.layout.specs.declared.RecordType.{RecordType}
 use Rattle.layout.specs.declared.RecordType.the-variants.{Facility, So2Concentration, NoxConcentration, Co2Concentration, VolumetricFlow}
 use Rattle.layout.specs.declared.RecordType.the-variants.{Operation, QuarterTotals, So2Mass, NoxRate, Co2Mass}
 use Rattle.layout.specs.declared.Run.{Run}
-use Rattle.layout.specs.declared.Run.the-variants.{Once, Hourly}
+use Rattle.layout.specs.declared.Run.the-variants.{Once, Hourly, Listed}
 use Rattle.layout.specs.declared.Shape.{Shape}
 use Rattle.layout.specs.declared.Value.{Value}
 
@@ -77,6 +78,7 @@ count-most s h t = go (recordOf t .run)
     go : (run : Run) → linesOf run s ≤ mostHours
     go Once = omega arith
     go Hourly = omega arith
+    go Listed = omega arith
 
 -- the tests of a range and a step
 
@@ -111,6 +113,6 @@ flow-within scfh w = rw (scfh-back scfh w) w
 pub thousands-back : (thousands : ℕ) → thousandsOf (scfhOf thousands) ≡ thousands
 thousands-back thousands = omega arith
 
-pub report-length : (s : Shape) → reportLength s ≡ 64 + 318 * s .hours
+pub report-length : (s : Shape) → reportLength s ≡ 64 + 275 * s .hours + 43 * s .operations
 unfolding reportLength totalOf
 report-length s = omega arith

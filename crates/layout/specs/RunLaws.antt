@@ -3,28 +3,29 @@ use Prim.Native.Nat.{ℕ, zero, suc, _+_, _-_, _≤_, _<_}
 use mathlib.Core.Path.{_≡_, refl, ap, _∙_}
 use mathlib.Core.Bool.{Bool, true, false, _&&_, _||_}
 use mathlib.Core.List.{List, [], _∷_}
-use mathlib.Core.Logic.{_⊎_, inl, inr}
+use mathlib.Core.Logic.{_⊎_, inl, inr, ⊎-elim}
 use native.Mathlib.Omega.{arith}
 use native.Mathlib.Decide.{decLt}
 use lib.Dec.{eqb, leb}
 use lib.ListN.{length, getD, take, length-append}
 use borrow.Author.Tests.{eqb-true, leb-true}
 use Rattle.exact.specs.Sums.{totalOf}
-use Rattle.layout.specs.Layout.{recordOf, codeOf, dateColumn, order, rankOf, typeAt, bytesOf, frontOf, reportLength}
+use Rattle.layout.specs.Layout.{recordOf, codeOf, dateColumn, order, rankOf, typeAt, keepHourly, shape, linesOf, countOf, bytesOf, frontOf, reportLength}
 use Rattle.exact.specs.Logic.{both}
 use Rattle.layout.specs.LayoutLaws.{each}
 use Rattle.layout.specs.TypeLaws.{code-tells}
 use Rattle.layout.specs.PlaceLaws.{front-bytes, joinedRuns}
 use Rattle.layout.specs.declared.RecordType.{RecordType}
-use Rattle.layout.specs.declared.RecordType.the-variants.{Facility, QuarterTotals}
+use Rattle.layout.specs.declared.RecordType.the-variants.{Facility, Operation, QuarterTotals}
 use Rattle.layout.specs.declared.Run.{Run}
-use Rattle.layout.specs.declared.Run.the-variants.{Once, Hourly}
+use Rattle.layout.specs.declared.Run.the-variants.{Once, Hourly, Listed}
 use Rattle.layout.specs.declared.Shape.{Shape}
 
 -- a test of the types that stand once, or of the others
 abbrev ifRun : Run → Bool → Bool → Bool
 ifRun Once once hourly = once
 ifRun Hourly once hourly = hourly
+ifRun Listed once hourly = hourly
 
 -- line 100 and line 301 stand once
 pub once-type : (t : RecordType) → recordOf t .run ≡ Once → (t ≡ Facility) ⊎ (t ≡ QuarterTotals)
@@ -38,8 +39,70 @@ once-type t e =
     go false f h = inr (code-tells t QuarterTotals (eqb-true _ _ h))
 
 -- the others have a date
+dated-test : (t : RecordType) → ifRun (recordOf t .run) true (leb 1 (dateColumn t)) ≡ true
+dated-test t = each (λ t. ifRun (recordOf t .run) true (leb 1 (dateColumn t))) refl t
+
 pub hourly-dated : (t : RecordType) → recordOf t .run ≡ Hourly → 1 ≤ dateColumn t
-hourly-dated t e = leb-true _ _ (rw e at (each (λ t. ifRun (recordOf t .run) true (leb 1 (dateColumn t))) refl t))
+hourly-dated t e = leb-true _ _ (rw e at (dated-test t))
+
+pub listed-dated : (t : RecordType) → recordOf t .run ≡ Listed → 1 ≤ dateColumn t
+listed-dated t e = leb-true _ _ (rw e at (dated-test t))
+
+pub once-undated : (t : RecordType) → recordOf t .run ≡ Once → dateColumn t ≡ 0
+once-undated t e = ⊎-elim (λ f. ap dateColumn f) (λ f. ap dateColumn f) (once-type t e)
+
+-- a type stands once, or has a date
+pub once-or-dated : (t : RecordType) → (recordOf t .run ≡ Once) ⊎ (1 ≤ dateColumn t)
+once-or-dated t = go (recordOf t .run) refl
+  where
+    go : (run : Run) → recordOf t .run ≡ run → (recordOf t .run ≡ Once) ⊎ (1 ≤ dateColumn t)
+    go Once e = inl e
+    go Hourly e = inr (hourly-dated t e)
+    go Listed e = inr (listed-dated t e)
+
+-- of a type with a date every operating hour has a line
+module _ (t : RecordType) (d : 1 ≤ dateColumn t) where
+  pub dated-count : (n : ℕ) → countOf (shape n) t ≡ n
+  dated-count n = go (recordOf t .run) refl
+    where
+      go : (run : Run) → recordOf t .run ≡ run → linesOf run (shape n) ≡ n
+      go Once e = absurd (omega (arith, once-undated t e))
+      go Hourly e = refl
+      go Listed e = refl
+
+  pub dated-below : (s : Shape) (k : ℕ) → k < s .hours → k < s .operations → k < countOf s t
+  dated-below s k h m = go (recordOf t .run) refl
+    where
+      go : (run : Run) → recordOf t .run ≡ run → k < linesOf run s
+      go Once e = absurd (omega (arith, once-undated t e))
+      go Hourly e = h
+      go Listed e = m
+
+  pub keep-dated : (ts : List RecordType) → keepHourly (recordOf t .run) t ts ≡ t ∷ ts
+  keep-dated ts = go (recordOf t .run) refl
+    where
+      go : (run : Run) → recordOf t .run ≡ run → keepHourly run t ts ≡ t ∷ ts
+      go Once e = absurd (omega (arith, once-undated t e))
+      go Hourly e = refl
+      go Listed e = refl
+
+-- 300 lines alone are more than the operating hours
+abbrev ifListed : Run → Bool → Bool
+ifListed Once listed = true
+ifListed Hourly listed = true
+ifListed Listed listed = listed
+
+pub listed-type : (t : RecordType) → recordOf t .run ≡ Listed → t ≡ Operation
+listed-type t e =
+    code-tells t Operation (eqb-true _ _ (rw e at (each (λ t. ifListed (recordOf t .run) (eqb (codeOf t) (codeOf Operation))) refl t)))
+
+pub other-count : (s : Shape) (t : RecordType) → (t ≡ Operation → ⊥) → countOf s t ≡ countOf (shape (s .hours)) t
+other-count s t other = go (recordOf t .run) refl
+  where
+    go : (run : Run) → recordOf t .run ≡ run → linesOf run s ≡ linesOf run (shape (s .hours))
+    go Once e = refl
+    go Hourly e = refl
+    go Listed e = absurd (other (listed-type t e))
 
 -- each type has its own place in the order
 allBelow : (ℕ → Bool) → ℕ → Bool

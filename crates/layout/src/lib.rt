@@ -34,6 +34,13 @@ pub const SO2_BYTES: usize = SO2_LENGTH + 1;
 
 pub const SO2_DATE: usize = 16;
 
+// A 300 line: likewise.
+pub const OPERATION_LENGTH: usize = 42;
+
+pub const OPERATION_BYTES: usize = OPERATION_LENGTH + 1;
+
+pub const OPERATION_DATE: usize = 10;
+
 pub enum RecordType {
     // 100
     Facility,
@@ -113,15 +120,17 @@ pub fn within(v: Value, k: u64) -> bool
     in_range(v, k) & whole_steps(v, k)
 }
 
-// How many lines a report has.
+// How many lines a report has: its operating hours, and its 300 lines.
 pub struct Shape {
     pub hours: usize,
+    pub operations: usize,
 }
 
-// How many lines of a type there are: one, or one for each operating hour.
+// How many lines of a type there are: one, one for each operating hour, or one for each hour that is listed.
 pub enum Run {
     Once,
     Hourly,
+    Listed,
 }
 
 // The lines and the bytes in front of a type.
@@ -130,10 +139,11 @@ pub struct Front {
     pub bytes: usize,
 }
 
-// What stands in front of a type: lines of their own, and those of one operating hour.
+// What stands in front of a type: lines of their own, those of one operating hour, and that of one hour listed.
 struct Lead {
     once: Front,
     hourly: Front,
+    listed: Front,
 }
 
 // A type's code, which is written, and its digits, which are compared; the length of its line without byte 10, where date and hour start (0 where it has
@@ -194,9 +204,9 @@ pub fn row_of(t: RecordType) -> Row
         RecordType::Operation => Row {
             code: 300,
             digits: [b'3', b'0', b'0'],
-            length: 42,
-            date: 10,
-            run: Run::Hourly,
+            length: OPERATION_LENGTH,
+            date: OPERATION_DATE,
+            run: Run::Listed,
             values: 2,
         },
         RecordType::QuarterTotals => Row {
@@ -242,13 +252,16 @@ pub fn count_of(s: Shape, t: RecordType) -> usize
     match run {
         Run::Once => 1,
         Run::Hourly => s.hours,
+        Run::Listed => s.operations,
     }
 }
 
-// How many types there are, and the place of the 200 lines among them.
+// How many types there are, and the places of the 200 and of the 300 lines among them.
 pub const TYPES: usize = 10;
 
 pub const SO2_PLACE: usize = 1;
+
+pub const OPERATION_PLACE: usize = 5;
 
 const ORDER: [RecordType; TYPES] = [
     RecordType::Facility,
@@ -271,8 +284,15 @@ pub fn type_at(place: usize) -> RecordType
     ORDER[place]
 }
 
-fn lead_by(lines: usize, bytes: usize, more: usize, longer: usize) -> Lead
-    ensures { λ r. ⌜ r ≡ leadBy lines bytes more longer ⌝ }
+fn lead_by(
+    lines: usize,
+    bytes: usize,
+    more: usize,
+    longer: usize,
+    listed: usize,
+    listing: usize,
+) -> Lead
+    ensures { λ r. ⌜ r ≡ leadBy lines bytes more longer listed listing ⌝ }
 {
     Lead {
         once: Front { lines, bytes },
@@ -280,32 +300,36 @@ fn lead_by(lines: usize, bytes: usize, more: usize, longer: usize) -> Lead
             lines: more,
             bytes: longer,
         },
+        listed: Front {
+            lines: listed,
+            bytes: listing,
+        },
     }
 }
 
-// What stands in front of a type: lines of their own and their bytes, and those of one operating hour.
+// What stands in front of a type: lines of their own and their bytes, those of one operating hour, and that of one hour listed.
 fn lead_of(t: RecordType) -> Lead
     ensures { λ r. ⌜ r ≡ leadOf t ⌝ }
 {
     match t {
-        RecordType::Facility => lead_by(0, 0, 0, 0),
-        RecordType::So2Concentration => lead_by(1, 15, 0, 0),
-        RecordType::NoxConcentration => lead_by(1, 15, 1, 41),
-        RecordType::Co2Concentration => lead_by(1, 15, 2, 76),
-        RecordType::VolumetricFlow => lead_by(1, 15, 3, 111),
-        RecordType::Operation => lead_by(1, 15, 4, 160),
-        RecordType::QuarterTotals => lead_by(1, 15, 5, 203),
-        RecordType::So2Mass => lead_by(2, 64, 5, 203),
-        RecordType::NoxRate => lead_by(2, 64, 6, 238),
-        RecordType::Co2Mass => lead_by(2, 64, 7, 293),
+        RecordType::Facility => lead_by(0, 0, 0, 0, 0, 0),
+        RecordType::So2Concentration => lead_by(1, 15, 0, 0, 0, 0),
+        RecordType::NoxConcentration => lead_by(1, 15, 1, 41, 0, 0),
+        RecordType::Co2Concentration => lead_by(1, 15, 2, 76, 0, 0),
+        RecordType::VolumetricFlow => lead_by(1, 15, 3, 111, 0, 0),
+        RecordType::Operation => lead_by(1, 15, 4, 160, 0, 0),
+        RecordType::QuarterTotals => lead_by(1, 15, 4, 160, 1, 43),
+        RecordType::So2Mass => lead_by(2, 64, 4, 160, 1, 43),
+        RecordType::NoxRate => lead_by(2, 64, 5, 195, 1, 43),
+        RecordType::Co2Mass => lead_by(2, 64, 6, 250, 1, 43),
     }
 }
 
-fn sized(once: usize, hourly: usize, hours: usize) -> usize
-    requires { ⌜ (once ≤ 1000) × (hourly ≤ 1000) × (hours ≤ mostHours) ⌝ }
-    ensures { λ r. ⌜ (r ≡ once + hourly * hours) × (r ≤ 10000000) ⌝ }
+fn sized(s: Shape, once: usize, hourly: usize, listed: usize) -> usize
+    requires { ⌜ Held s × (once ≤ 1000) × (hourly ≤ 1000) × (listed ≤ 1000) ⌝ }
+    ensures { λ r. ⌜ (r ≡ once + hourly * s .hours + listed * s .operations) × (r ≤ 10000000) ⌝ }
 {
-    once + hourly * hours
+    once + hourly * s.hours + listed * s.operations
 }
 
 // The lines and the bytes in front of a type.
@@ -315,8 +339,8 @@ pub fn front_of(s: Shape, t: RecordType) -> Front
 {
     let lead = lead_of(t);
     Front {
-        lines: sized(lead.once.lines, lead.hourly.lines, s.hours),
-        bytes: sized(lead.once.bytes, lead.hourly.bytes, s.hours),
+        lines: sized(s, lead.once.lines, lead.hourly.lines, lead.listed.lines),
+        bytes: sized(s, lead.once.bytes, lead.hourly.bytes, lead.listed.bytes),
     }
 }
 
@@ -389,6 +413,8 @@ pub const FLOW_SCFH: Value = Value {
     step: 1000,
 };
 
+// The time of an operating hour, and that of any hour which is listed: an idle one has 0.00.
+
 pub const TIME_HOURS: Value = Value {
     start: 18,
     width: 4,
@@ -396,6 +422,15 @@ pub const TIME_HOURS: Value = Value {
     least: 1,
     most: 100,
     step: 1,
+};
+
+pub const LISTED_TIME: Value = Value {
+    start: TIME_HOURS.start,
+    width: TIME_HOURS.width,
+    decimals: TIME_HOURS.decimals,
+    least: 0,
+    most: TIME_HOURS.most,
+    step: TIME_HOURS.step,
 };
 
 pub const HEAT_RATE: Value = Value {

@@ -1,20 +1,24 @@
--- What lines 100 and 200 say, from their faults.
+-- What lines 100, 200 and 300 say, from their faults.
 use Prim.Native.Nat.{ℕ, zero, suc}
 use mathlib.Core.Path.{_≡_, refl, sym, ap, _∙_}
 use mathlib.Core.List.{List}
 use mathlib.Core.Bool.{Bool, not}
+use native.Mathlib.Omega.{arith}
 use Rattle.columns.specs.Bytes.{isBlank, all}
 use Rattle.calendar.specs.declared.QuarterHour.{QuarterHour}
-use Rattle.layout.specs.Layout.{yearDigits, quarterDigit, valuesOf, within}
+use Rattle.layout.specs.Layout.{yearDigits, quarterDigit, within}
+use Rattle.layout.specs.declared.RecordType.{RecordType}
 use Rattle.layout.specs.declared.RecordType.the-variants.{Facility, So2Concentration}
 use Rattle.exact.specs.Faults.{_orElse_, unless}
-use Rattle.lines.specs.LineFaults.{shapeFault, stackOf, commonFault, valuesFault, digitsIn, periodOn}
-use Rattle.lines.specs.LineFaults.{facilityFault, facilityLine, risingFault, hourOn, hourFault, hourNumber, hourLine}
+use Rattle.lines.specs.LineFaults.{shapeFault, stackOf, commonFault, digitsIn, periodOn, facilityFault, facilityLine}
+use Rattle.lines.specs.LineFaults.{risingFault, hourOn, hourIn, datedFault, datedLine, hourFault, hourLine, saidOf}
 use Rattle.lines.specs.declared.Period.{Period}
 use Rattle.lines.specs.declared.FacilityLine.{FacilityLine}
 use Rattle.lines.specs.declared.FacilityLine.the-variants.{Of, Faulty as FaultyFacility}
 use Rattle.lines.specs.declared.HourLine.{HourLine}
 use Rattle.lines.specs.declared.HourLine.the-variants.{At as OfHour, Faulty as FaultyHour}
+use Rattle.lines.specs.declared.operation.OperationLine.{OperationLine}
+use Rattle.lines.specs.declared.operation.OperationLine.the-variants.{Faulty as FaultyOperation}
 
 module _ (line : List ℕ) where
   says : ℕ → FacilityLine
@@ -40,25 +44,63 @@ module _ (line : List ℕ) where
   unfolding facilityFault
   facility-tests blank year quarter s b y q = rw (s, b, y, q)
 
-module _ (facility : List ℕ) (period : Period) (from : ℕ) (line : List ℕ) where
+module _ (hour : ℕ) where
   names : ℕ → HourLine
-  names f = elim f [ zero ↦ OfHour (hourNumber (hourOn period line)) | suc c ↦ FaultyHour (suc c) ]
+  names f = elim f [ zero ↦ OfHour hour | suc c ↦ FaultyHour (suc c) ]
 
   failed : (f : ℕ) → (f ≡ 0 → ⊥) → FaultyHour f ≡ names f
   unfolding names
   failed zero n = absurd (n refl)
   failed (suc c) n = refl
 
+module _ (facility : List ℕ) (period : Period) (t : RecordType) (from : ℕ) (line : List ℕ) where
+  pub dated-faulty : (f : ℕ) → f ≡ datedFault facility period t from line → (f ≡ 0 → ⊥) → FaultyHour f ≡ datedLine facility period t from line
+  unfolding datedLine names
+  dated-faulty f e n = failed (hourIn period t line) f n ∙ ap (names (hourIn period t line)) e
+
+  pub dated-of : datedFault facility period t from line ≡ 0 → OfHour (hourIn period t line) ≡ datedLine facility period t from line
+  unfolding datedLine names
+  dated-of e = sym (ap (names (hourIn period t line)) e)
+
+  -- the test behind those that every line has
+  pub dated-test : (hour : QuarterHour) → commonFault facility t line ≡ 0 → hourOn period t line ≡ hour →
+      datedFault facility period t from line ≡ risingFault from hour
+  unfolding datedFault
+  dated-test hour s h = rw (s, h)
+
+  -- what it says
+  pub dated-at : (hour : ℕ) → datedLine facility period t from line ≡ OfHour hour → (datedFault facility period t from line ≡ 0) × (hourIn period t line ≡ hour)
+  unfolding datedLine
+  dated-at hour = go (datedFault facility period t from line) refl
+    where
+      go : (f : ℕ) → datedFault facility period t from line ≡ f → elim f [ zero ↦ OfHour (hourIn period t line) | suc c ↦ FaultyHour (suc c) ] ≡ OfHour hour →
+          (datedFault facility period t from line ≡ 0) × (hourIn period t line ≡ hour)
+      go zero k w = (k, cc)
+      go (suc c) k w = absurd (let z : _≡_ {A = ℕ} 0 1 = cc in omega arith)
+
+  pub dated-not : (number : ℕ) → datedLine facility period t from line ≡ FaultyHour number →
+      (datedFault facility period t from line ≡ number) × (number ≡ 0 → ⊥)
+  unfolding datedLine
+  dated-not number = go (datedFault facility period t from line) refl
+    where
+      go : (f : ℕ) → datedFault facility period t from line ≡ f →
+          elim f [ zero ↦ OfHour (hourIn period t line) | suc c ↦ FaultyHour (suc c) ] ≡ FaultyHour number →
+          (datedFault facility period t from line ≡ number) × (number ≡ 0 → ⊥)
+      go zero k w = absurd (let z : _≡_ {A = ℕ} 0 1 = cc in omega arith)
+      go (suc c) k w = let n : suc c ≡ number = cc in (k ∙ n, (λ z. omega arith))
+
+-- a 200 line, from its fault
+module _ (facility : List ℕ) (period : Period) (from : ℕ) (line : List ℕ) where
   pub hour-faulty : (f : ℕ) → f ≡ hourFault facility period from line → (f ≡ 0 → ⊥) → FaultyHour f ≡ hourLine facility period from line
   unfolding hourLine names
-  hour-faulty f e n = failed f n ∙ ap names e
+  hour-faulty f e n = failed (hourIn period So2Concentration line) f n ∙ ap (names (hourIn period So2Concentration line)) e
 
-  pub hour-of : hourFault facility period from line ≡ 0 → OfHour (hourNumber (hourOn period line)) ≡ hourLine facility period from line
+  pub hour-of : hourFault facility period from line ≡ 0 → OfHour (hourIn period So2Concentration line) ≡ hourLine facility period from line
   unfolding hourLine names
-  hour-of e = sym (ap names e)
+  hour-of e = sym (ap (names (hourIn period So2Concentration line)) e)
 
-  -- the tests behind those that every line has
-  pub hour-tests : (hour : QuarterHour) → commonFault facility So2Concentration line ≡ 0 → hourOn period line ≡ hour →
-      hourFault facility period from line ≡ risingFault from hour orElse valuesFault (valuesOf So2Concentration) line
-  unfolding hourFault
-  hour-tests hour s h = rw (s, h)
+-- a 300 line, from its fault
+pub operation-faulty : (f : ℕ) (hour : OperationLine) → (f ≡ 0 → ⊥) → FaultyOperation f ≡ saidOf f hour
+unfolding saidOf
+operation-faulty zero hour n = absurd (n refl)
+operation-faulty (suc c) hour n = refl

@@ -8,7 +8,7 @@ use native.Mathlib.Nat.{le-of-suc-le-suc, not-suc-le-zero}
 use lib.Dec.{eqb, leb}
 use lib.ListN.{length, take, drop, getD}
 use lib.Seq.{drop-drop, take-take}
-use borrow.Author.Tests.{eqb-true, leb-true, eq-eqb}
+use borrow.Author.Tests.{eqb-true, leb-true, le-leb, eq-eqb}
 use Rattle.columns.specs.Bytes.{isBlank, all}
 use Rattle.columns.specs.BytesLaws.{same-eq}
 use Rattle.columns.specs.Columns.{columns}
@@ -27,7 +27,8 @@ use Rattle.layout.specs.declared.Value.{Value}
 use Rattle.stamp.specs.StampLaws.{stamp-below}
 use Rattle.exact.specs.Faults.{unless, or-zero, unless-zero}
 use Rattle.lines.specs.LineFaults.{typeIs, shapeFault, stackOf, commonFault, fieldFault, fieldIn, valuesFault, digitsIn, periodOn}
-use Rattle.lines.specs.LineFaults.{facilityFault, facilityLine, risingFault, dateOn, hourOn, hourFault, hourNumber, hourLine, Due, dateFault, dueFault}
+use Rattle.lines.specs.LineFaults.{facilityFault, facilityLine, risingFault, dateOn, hourOn, datedFault, hourFault, hourNumber, hourIn, hourLine}
+use Rattle.lines.specs.LineFaults.{Due, dateFault, dueFault}
 use Rattle.lines.specs.declared.Period.{Period}
 use Rattle.lines.specs.declared.FacilityLine.the-variants.{Of, Faulty as FaultyFacility}
 use Rattle.lines.specs.declared.HourLine.the-variants.{At as OfHour, Faulty as FaultyHour}
@@ -92,26 +93,45 @@ module _ (line : List ℕ) (e : facilityFault line ≡ 0) where
   pub facility-quarter : Within quarterDigit (periodOn line .quarter)
   facility-quarter = within-true quarterDigit _ (unless-zero (within quarterDigit (digitsIn quarterDigit line)) 5 (facility-ranges .1))
 
-module _ (facility : List ℕ) (period : Period) (from : ℕ) (line : List ℕ) (e : hourFault facility period from line ≡ 0) where
-  pub hour-shape : shapeFault So2Concentration line ≡ 0
-  unfolding hourFault
-  hour-shape = common-shape facility So2Concentration line (or-zero (commonFault facility So2Concentration line) _ e .0)
+module _ (facility : List ℕ) (period : Period) (t : RecordType) (from : ℕ) (line : List ℕ) (e : datedFault facility period t from line ≡ 0) where
+  dated-parts : (commonFault facility t line ≡ 0) × (risingFault from (hourOn period t line) ≡ 0)
+  unfolding datedFault
+  dated-parts = or-zero (commonFault facility t line) _ e
 
-  hour-parts : (risingFault from (hourOn period line) ≡ 0) × (valuesFault (valuesOf So2Concentration) line ≡ 0)
+  pub dated-shape : shapeFault t line ≡ 0
+  dated-shape = common-shape facility t line (dated-parts .0)
+
+  -- its hour is one of the quarter, and not below `from`
+  pub dated-rises : IsQuarter (period .quarter) → (from ≤ hourIn period t line) × (hourIn period t line < mostHours)
+  unfolding risingFault hourNumber
+  dated-rises q = go (hourOn period t line) refl (dated-parts .1)
+    where
+      go : (h : QuarterHour) → hourOn period t line ≡ h → risingFault from h ≡ 0 → (from ≤ hourNumber h) × (hourNumber h < mostHours)
+      go Outside k f = absurd (omega arith)
+      go (At h) k f = (leb-true from h (unless-zero (leb from h) 5 f), stamp-below (period .year) (period .quarter) q (dateOn t line) h k)
+
+  -- nor is it below what is earlier
+  pub dated-earlier : (earlier : ℕ) → earlier ≤ from → datedFault facility period t earlier line ≡ 0
+  unfolding datedFault risingFault
+  dated-earlier earlier h = rw (dated-parts .0) (go (hourOn period t line) (dated-parts .1))
+    where
+      go : (x : QuarterHour) → risingFault from x ≡ 0 → risingFault earlier x ≡ 0
+      go Outside f = f
+      go (At x) f = let l = leb-true from x (unless-zero (leb from x) 5 f) in rw (le-leb earlier x (omega arith))
+
+module _ (facility : List ℕ) (period : Period) (from : ℕ) (line : List ℕ) (e : hourFault facility period from line ≡ 0) where
+  hour-parts : (datedFault facility period So2Concentration from line ≡ 0) × (valuesFault (valuesOf So2Concentration) line ≡ 0)
   unfolding hourFault
-  hour-parts = or-zero (risingFault from (hourOn period line)) _ (or-zero (commonFault facility So2Concentration line) _ e .1)
+  hour-parts = or-zero (datedFault facility period So2Concentration from line) _ e
+
+  pub hour-shape : shapeFault So2Concentration line ≡ 0
+  hour-shape = dated-shape facility period So2Concentration from line (hour-parts .0)
 
   pub hour-values : valuesFault (valuesOf So2Concentration) line ≡ 0
   hour-values = hour-parts .1
 
-  -- its hour is one of the quarter, and not below `from`
-  pub hour-rises : IsQuarter (period .quarter) → (from ≤ hourNumber (hourOn period line)) × (hourNumber (hourOn period line) < mostHours)
-  unfolding risingFault hourNumber
-  hour-rises q = go (hourOn period line) refl (hour-parts .0)
-    where
-      go : (h : QuarterHour) → hourOn period line ≡ h → risingFault from h ≡ 0 → (from ≤ hourNumber h) × (hourNumber h < mostHours)
-      go Outside k f = absurd (omega arith)
-      go (At h) k f = (leb-true from h (unless-zero (leb from h) 5 f), stamp-below (period .year) (period .quarter) q (dateOn line) h k)
+  pub hour-rises : IsQuarter (period .quarter) → (from ≤ hourIn period So2Concentration line) × (hourIn period So2Concentration line < mostHours)
+  hour-rises = dated-rises facility period So2Concentration from line (hour-parts .0)
 
 -- what lines 100 and 200 say, they say without fault
 
@@ -125,13 +145,13 @@ facility-said line period e = go (facilityFault line) refl e
     go (suc c) k w = absurd (let z : _≡_ {A = ℕ} 0 1 = cc in omega arith)
 
 pub hour-said : (facility : List ℕ) (period : Period) (from : ℕ) (line : List ℕ) (hour : ℕ) → hourLine facility period from line ≡ OfHour hour →
-    (hourFault facility period from line ≡ 0) × (hourNumber (hourOn period line) ≡ hour)
+    (hourFault facility period from line ≡ 0) × (hourIn period So2Concentration line ≡ hour)
 unfolding hourLine
 hour-said facility period from line hour e = go (hourFault facility period from line) refl e
   where
     go : (f : ℕ) → hourFault facility period from line ≡ f →
-        elim f [ zero ↦ OfHour (hourNumber (hourOn period line)) | suc c ↦ FaultyHour (suc c) ] ≡ OfHour hour →
-        (hourFault facility period from line ≡ 0) × (hourNumber (hourOn period line) ≡ hour)
+        elim f [ zero ↦ OfHour (hourIn period So2Concentration line) | suc c ↦ FaultyHour (suc c) ] ≡ OfHour hour →
+        (hourFault facility period from line ≡ 0) × (hourIn period So2Concentration line ≡ hour)
     go zero k w = (k, cc)
     go (suc c) k w = absurd (let z : _≡_ {A = ℕ} 0 1 = cc in omega arith)
 

@@ -3,6 +3,7 @@ pub mod LineLaws
 pub mod EndLaws
 pub mod LineFaults
 pub mod FaultLaws
+pub mod OperationLaws
 pub mod Beginning
 pub mod Examples
 pub mod Shows

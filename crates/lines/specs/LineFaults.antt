@@ -1,9 +1,9 @@
--- The faults of one line, in the order in which they are looked for, and what lines 100 and 200 say. A fault is its number in the
+-- The faults of one line, in the order in which they are looked for, and what lines 100, 200 and 300 say. A fault is its number in the
 -- paper's table; 0 is none.
 use Prim.Native.Nat.{ℕ, zero, suc}
 use mathlib.Core.List.{List, [], _∷_}
-use mathlib.Core.Bool.{Bool, not}
-use lib.Dec.{eqb, leb}
+use mathlib.Core.Bool.{Bool, cond, not}
+use lib.Dec.{eqb, leb, ltb}
 use lib.ListN.{length, take}
 use Rattle.exact.specs.Faults.{_orElse_, unless}
 use Rattle.columns.specs.Bytes.{isBlank, isPrintable, all, same}
@@ -14,16 +14,18 @@ use Rattle.columns.specs.declared.Field.the-variants.{Blank, Malformed, Number}
 use Rattle.calendar.specs.declared.QuarterHour.{QuarterHour}
 use Rattle.calendar.specs.declared.QuarterHour.the-variants.{At, Outside}
 use Rattle.layout.specs.Layout.{typeWidth, typeDigits, stackStart, stackWidth, dateWidth, yearDigits, quarterDigit, lengthOf}
-use Rattle.layout.specs.Layout.{dateColumn, valuesOf, inRange, wholeSteps, within}
+use Rattle.layout.specs.Layout.{dateColumn, valuesOf, listedTime, heatRate, inRange, wholeSteps, within}
 use Rattle.stamp.specs.Stamp.{stampHour}
 use Rattle.layout.specs.declared.RecordType.{RecordType}
-use Rattle.layout.specs.declared.RecordType.the-variants.{Facility, So2Concentration}
+use Rattle.layout.specs.declared.RecordType.the-variants.{Facility, So2Concentration, Operation}
 use Rattle.layout.specs.declared.Value.{Value}
 use Rattle.lines.specs.declared.Period.{Period}
 use Rattle.lines.specs.declared.FacilityLine.{FacilityLine}
 use Rattle.lines.specs.declared.FacilityLine.the-variants.{Of, Faulty as FaultyFacility}
 use Rattle.lines.specs.declared.HourLine.{HourLine}
 use Rattle.lines.specs.declared.HourLine.the-variants.{At as OfHour, Faulty as FaultyHour}
+use Rattle.lines.specs.declared.operation.OperationLine.{OperationLine}
+use Rattle.lines.specs.declared.operation.OperationLine.the-variants.{Operating, Idle, Faulty as FaultyOperation}
 
 -- 2, 3 and 4: the type, the length, the bytes
 
@@ -78,32 +80,41 @@ facilityFault line =
 unfoldable pub facilityLine : List ℕ → FacilityLine
 facilityLine line = elim (facilityFault line) [ zero ↦ Of (periodOn line) | suc c ↦ FaultyFacility (suc c) ]
 
--- 6: date and hour of a 200 line, of which the hour of the quarter is at least `from`
+-- 6: date and hour of a 200 or 300 line, of which the hour of the quarter is at least `from`
 
 unfoldable pub risingFault : ℕ → QuarterHour → ℕ
 risingFault from Outside = 6
 risingFault from (At hour) = unless (leb from hour) 6
 
-abbrev pub dateOn : List ℕ → List ℕ
-dateOn line = columns (dateColumn So2Concentration) dateWidth line
+abbrev pub dateOn : RecordType → List ℕ → List ℕ
+dateOn t line = columns (dateColumn t) dateWidth line
 
-abbrev pub hourOn : Period → List ℕ → QuarterHour
-hourOn period line = stampHour (period .year) (period .quarter) (dateOn line)
+abbrev pub hourOn : Period → RecordType → List ℕ → QuarterHour
+hourOn period t line = stampHour (period .year) (period .quarter) (dateOn t line)
 
-unfoldable pub hourFault : List ℕ → Period → ℕ → List ℕ → ℕ
-hourFault facility period from line =
-    commonFault facility So2Concentration line
-    orElse risingFault from (hourOn period line)
-    orElse valuesFault (valuesOf So2Concentration) line
+unfoldable pub datedFault : List ℕ → Period → RecordType → ℕ → List ℕ → ℕ
+datedFault facility period t from line = commonFault facility t line orElse risingFault from (hourOn period t line)
 
--- 0 where there is none
+-- its hour of the quarter, 0 where there is none
 unfoldable pub hourNumber : QuarterHour → ℕ
 hourNumber Outside = 0
 hourNumber (At hour) = hour
 
+abbrev pub hourIn : Period → RecordType → List ℕ → ℕ
+hourIn period t line = hourNumber (hourOn period t line)
+
+unfoldable pub datedLine : List ℕ → Period → RecordType → ℕ → List ℕ → HourLine
+datedLine facility period t from line =
+    elim (datedFault facility period t from line) [ zero ↦ OfHour (hourIn period t line) | suc c ↦ FaultyHour (suc c) ]
+
+-- a 200 line: behind them, its value
+unfoldable pub hourFault : List ℕ → Period → ℕ → List ℕ → ℕ
+hourFault facility period from line =
+    datedFault facility period So2Concentration from line orElse valuesFault (valuesOf So2Concentration) line
+
 unfoldable pub hourLine : List ℕ → Period → ℕ → List ℕ → HourLine
 hourLine facility period from line =
-    elim (hourFault facility period from line) [ zero ↦ OfHour (hourNumber (hourOn period line)) | suc c ↦ FaultyHour (suc c) ]
+    elim (hourFault facility period from line) [ zero ↦ OfHour (hourIn period So2Concentration line) | suc c ↦ FaultyHour (suc c) ]
 
 -- a line that is due: its type, and the date and hour that it must have where its type has one
 pub record Due : Type 0 where
@@ -124,3 +135,38 @@ dueFault facility due line =
     commonFault facility (due .type) line
     orElse dateFault (dateColumn (due .type)) (due .date) line
     orElse valuesFault (valuesOf (due .type)) line
+
+-- a 300 line: behind its hour, its time; then, where the hour operates, date and heat; where it is idle, 47 unless the heat columns are blank
+
+abbrev pub timeIn : List ℕ → Field
+timeIn line = fieldIn listedTime line
+
+unfoldable pub operates : List ℕ → Bool
+operates line = ltb 0 (numberOf (timeIn line))
+
+unfoldable pub idleFault : Field → ℕ
+idleFault Blank = 0
+idleFault Malformed = 47
+idleFault (Number k) = 47
+
+unfoldable pub operatingFault : List ℕ → List ℕ → ℕ
+operatingFault date line = dateFault (dateColumn Operation) date line orElse fieldFault heatRate (fieldIn heatRate line)
+
+-- `date` is the one that an operating hour must have; where none is left it is empty, and no line has it
+unfoldable pub timedFault : List ℕ → List ℕ → ℕ
+timedFault date line =
+    fieldFault listedTime (timeIn line) orElse cond (operates line) (operatingFault date line) (idleFault (fieldIn heatRate line))
+
+unfoldable pub operationFault : List ℕ → Period → ℕ → List ℕ → List ℕ → ℕ
+operationFault facility period from date line = datedFault facility period Operation from line orElse timedFault date line
+
+-- what a line with this fault says of its hour
+unfoldable pub saidOf : ℕ → OperationLine → OperationLine
+saidOf zero hour = hour
+saidOf (suc c) hour = FaultyOperation (suc c)
+
+abbrev pub operationOf : ℕ → ℕ → List ℕ → OperationLine
+operationOf fault hour line = saidOf fault (cond (operates line) (Operating hour) (Idle hour))
+
+unfoldable pub operationLine : List ℕ → Period → ℕ → List ℕ → List ℕ → OperationLine
+operationLine facility period from date line = operationOf (operationFault facility period from date line) (hourIn period Operation line) line

@@ -2,17 +2,22 @@
 -- line with a fault shows it.
 use Prim.Native.Nat.{ℕ, _%_, _≤_, _<_}
 use mathlib.Core.Path.{_≡_}
+use mathlib.Core.Logic.{_⊎_}
 use mathlib.Core.List.{List}
 use mathlib.Core.Bool.{Bool, true, false, _&&_, _||_}
 use lib.Dec.{leb}
 use lib.ListN.{length, getD}
 use Rattle.columns.specs.Bytes.{isBlank, isPrintable, all}
-use Rattle.columns.specs.declared.Field.the-variants.{Number}
+use Rattle.columns.specs.declared.Field.the-variants.{Blank, Number}
 use Rattle.calendar.specs.declared.QuarterHour.the-variants.{At, Outside}
-use Rattle.layout.specs.Layout.{lengthOf, dateColumn, yearDigits, quarterDigit, flowScfh, valueCount, valueAt, Between}
+use Rattle.layout.specs.Layout.{lengthOf, dateColumn, yearDigits, quarterDigit, flowScfh, listedTime, heatRate, valueCount, valueAt, Between}
 use Rattle.layout.specs.declared.RecordType.{RecordType}
-use Rattle.layout.specs.declared.RecordType.the-variants.{Facility, So2Concentration, VolumetricFlow}
-use Rattle.lines.specs.LineFaults.{typeIs, stackOf, fieldIn, digitsIn, periodOn, hourOn}
+use Rattle.layout.specs.declared.RecordType.the-variants.{Facility, So2Concentration, VolumetricFlow, Operation}
+use Rattle.lines.specs.LineFaults.{typeIs, stackOf, fieldIn, digitsIn, periodOn, hourOn, timeIn, operates}
+
+-- the types whose hours rise, line by line
+abbrev pub Rises : RecordType → Type 0
+Rises t = (t ≡ So2Concentration) ⊎ (t ≡ Operation)
 
 -- `facility` is the file's line 100
 pub data Shows (facility line : List ℕ) : ℕ → Type 0 where
@@ -24,17 +29,20 @@ pub data Shows (facility line : List ℕ) : ℕ → Type 0 where
   otherStack : (stackOf line ≡ stackOf facility → ⊥) → Shows facility line 5
   yearOutside : typeIs Facility line ≡ true → (Between yearDigits (digitsIn yearDigits line) → ⊥) → Shows facility line 6
   quarterOutside : typeIs Facility line ≡ true → (Between quarterDigit (digitsIn quarterDigit line) → ⊥) → Shows facility line 6
-  hourOutside : typeIs So2Concentration line ≡ true → hourOn (periodOn facility) line ≡ Outside → Shows facility line 6
+  hourOutside : (t : RecordType) → Rises t → typeIs t line ≡ true → hourOn (periodOn facility) t line ≡ Outside → Shows facility line 6
   -- which hour it must be later than, the line before it says
-  hourNotLater : (hour : ℕ) → typeIs So2Concentration line ≡ true → hourOn (periodOn facility) line ≡ At hour → Shows facility line 6
-  -- which date and hour it must have, the 200 line of its rank says
-  otherDate : (t : RecordType) → typeIs t line ≡ true → 1 ≤ dateColumn t → Shows facility line 7
-  notInFormat : (t : RecordType) (i : ℕ) → typeIs t line ≡ true → i < valueCount t →
+  hourNotLater : (t : RecordType) (hour : ℕ) → Rises t → typeIs t line ≡ true → hourOn (periodOn facility) t line ≡ At hour → Shows facility line 6
+  -- which date and hour it must have, the 200 line of its rank says; none is left for a 300 line too many
+  otherDate : (t : RecordType) → (t ≡ Operation → operates line ≡ true) → typeIs t line ≡ true → 1 ≤ dateColumn t → Shows facility line 7
+  notInFormat : (t : RecordType) (i : ℕ) → (t ≡ Operation → i ≡ 1 → operates line ≡ true) → typeIs t line ≡ true → i < valueCount t →
       ((k : ℕ) → fieldIn (valueAt t i) line ≡ Number k → ⊥) → Shows facility line 8
-  valueOutside : (t : RecordType) (i k : ℕ) → typeIs t line ≡ true → i < valueCount t →
+  valueOutside : (t : RecordType) (i k : ℕ) → (t ≡ Operation → i ≡ 0 → ⊥) → typeIs t line ≡ true → i < valueCount t →
       fieldIn (valueAt t i) line ≡ Number k → (Between (valueAt t i) k → ⊥) → Shows facility line 9
+  timeOutside : (k : ℕ) → typeIs Operation line ≡ true → timeIn line ≡ Number k → listedTime .most < k → Shows facility line 9
   notThousands : (k : ℕ) → typeIs VolumetricFlow line ≡ true → fieldIn flowScfh line ≡ Number k → Between flowScfh k → (k % 1000 ≡ 0 → ⊥) →
       Shows facility line 43
+  -- an idle hour
+  heatGiven : typeIs Operation line ≡ true → timeIn line ≡ Number 0 → (fieldIn heatRate line ≡ Blank → ⊥) → Shows facility line 47
 
 -- the numbers of the line checks: those of the rows, 1 (the whole file) and 10 (a line that is missing) lie in 1 to 10 or 43 to 49
 abbrev pub ofLineChecks : ℕ → Bool

@@ -1,36 +1,40 @@
 -- A line with a fault shows it. Shows.antt has the rows.
 use Prim.Native.Nat.{ℕ, zero, suc, _%_, _<_}
-use mathlib.Core.Path.{_≡_, refl, sym, _∙_}
+use mathlib.Core.Path.{_≡_, refl, sym, ap, _∙_}
 use mathlib.Core.Logic.{_⊎_, inl, inr}
 use mathlib.Core.List.{List, [], _∷_}
-use mathlib.Core.Bool.{Bool, true, false, not, false≢true}
+use mathlib.Core.Bool.{Bool, true, false, cond, not, false≢true}
 use native.Mathlib.Omega.{arith}
+use native.Mathlib.Decide.{decLt}
 use lib.Dec.{eqb, leb}
 use lib.ListN.{length, getD}
-use borrow.Author.Tests.{eqb-false, not-false}
+use borrow.Author.Tests.{eqb-false, ltb-false, not-false}
 use Rattle.columns.specs.Bytes.{isBlank, isPrintable, all, same}
 use Rattle.columns.specs.BytesLaws.{same-eq, all-false}
 use Rattle.columns.specs.Columns.{columns}
+use Rattle.columns.specs.Number.{numberOf}
 use Rattle.columns.specs.declared.Field.{Field}
 use Rattle.columns.specs.declared.Field.the-variants.{Blank, Malformed, Number}
 use Rattle.calendar.specs.declared.QuarterHour.{QuarterHour}
 use Rattle.calendar.specs.declared.QuarterHour.the-variants.{At, Outside}
-use Rattle.layout.specs.Layout.{lengthOf, dateColumn, dateWidth, yearDigits, quarterDigit, valuesOf, valueCount}
+use Rattle.layout.specs.Layout.{codeOf, lengthOf, dateColumn, dateWidth, yearDigits, quarterDigit, listedTime, heatRate, valuesOf, valueCount}
 use Rattle.layout.specs.Layout.{valueAt, noValue, Between, inRange, wholeSteps, within}
 use Rattle.layout.specs.LayoutLaws.{in-range-true, true-in-range, true-within}
 use Rattle.layout.specs.ValueLaws.{step-of}
 use Rattle.layout.specs.declared.RecordType.{RecordType}
-use Rattle.layout.specs.declared.RecordType.the-variants.{Facility, So2Concentration, VolumetricFlow}
+use Rattle.layout.specs.declared.RecordType.the-variants.{Facility, So2Concentration, VolumetricFlow, Operation}
 use Rattle.layout.specs.declared.Value.{Value}
 use Rattle.exact.specs.Faults.{_orElse_, unless}
 use Rattle.lines.specs.LineFaults.{typeIs, shapeFault, stackOf, stackFault, commonFault, fieldFault, fieldIn, valuesFault, digitsIn}
-use Rattle.lines.specs.LineFaults.{periodOn, facilityFault, facilityLine, risingFault, hourOn, hourFault, hourNumber, hourLine, Due, dateFault, dueFault}
-use Rattle.lines.specs.FaultLaws.{shape-type, common-shape}
-use Rattle.lines.specs.Shows.{Shows, ofLineChecks}
+use Rattle.lines.specs.LineFaults.{periodOn, facilityFault, facilityLine, risingFault, hourOn, datedFault, hourFault, hourIn, hourLine}
+use Rattle.lines.specs.LineFaults.{Due, dateFault, dueFault, timeIn, operates, idleFault, operatingFault, timedFault, operationFault, saidOf, operationLine}
+use Rattle.lines.specs.FaultLaws.{shape-type, common-shape, dated-shape}
+use Rattle.lines.specs.Shows.{Shows, Rises, ofLineChecks}
 use Rattle.lines.specs.Shows.Shows.{otherType, otherLength, unprintable, blankStack, otherStack, yearOutside, quarterOutside, hourOutside, hourNotLater}
-use Rattle.lines.specs.Shows.Shows.{otherDate, notInFormat, valueOutside, notThousands}
+use Rattle.lines.specs.Shows.Shows.{otherDate, notInFormat, valueOutside, timeOutside, notThousands, heatGiven}
 use Rattle.lines.specs.declared.FacilityLine.the-variants.{Of, Faulty as FaultyFacility}
 use Rattle.lines.specs.declared.HourLine.the-variants.{At as OfHour, Faulty as FaultyHour}
+use Rattle.lines.specs.declared.operation.OperationLine.the-variants.{Operating, Idle, Faulty as FaultyOperation}
 
 -- where there is a fault, it is shown
 abbrev Shown : (ℕ → Type 0) → ℕ → Type 0
@@ -69,6 +73,17 @@ outside v k = fails (inRange v k) (true-in-range v k)
 not-within : (v : Value) (k : ℕ) → k % v .step ≡ 0 → within v k ≡ false → Between v k → ⊥
 not-within v k s e b = fails (within v k) (true-within v k) e (record { least = b .0; most = b .1; whole = s })
 
+-- a time of 0 that has no fault is a number
+zero-time : (f : Field) → numberOf f ≡ 0 → fieldFault listedTime f ≡ 0 → f ≡ Number 0
+unfolding numberOf fieldFault
+zero-time Blank z e = absurd (omega arith)
+zero-time Malformed z e = absurd (omega arith)
+zero-time (Number k) z e = ap Number z
+
+-- 200 and 300 are two types
+so2-other : So2Concentration ≡ Operation → ⊥
+so2-other e = let z : _≡_ {A = ℕ} 200 300 = ap codeOf e in omega arith
+
 module _ (facility line : List ℕ) where
   abbrev Here : ℕ → Type 0
   Here = Shows facility line
@@ -96,42 +111,106 @@ module _ (facility line : List ℕ) where
       go (inr own) = notThousands k (rw (own .0) at type) (rw (own .0, own .1) at e) (rw (own .0, own .1) at b) (rw (own .0, own .1) at n)
 
   module _ (t : RecordType) (type : typeIs t line ≡ true) where
-    field-shown : (i : ℕ) → i < valueCount t → (f : Field) → fieldIn (valueAt t i) line ≡ f → Shown Here (fieldFault (valueAt t i) f)
+    no-number : (i : ℕ) → (t ≡ Operation → i ≡ 1 → operates line ≡ true) → i < valueCount t → (f : Field) → fieldIn (valueAt t i) line ≡ f →
+        ((k : ℕ) → f ≡ Number k → ⊥) → Here 8
+    no-number i o h f e n = notInFormat t i o type h (λ k g. n k (sym e ∙ g))
+
+    -- a value that is not the time of a 300 line
+    field-shown : (i : ℕ) → (t ≡ Operation → i ≡ 0 → ⊥) → (t ≡ Operation → i ≡ 1 → operates line ≡ true) → i < valueCount t → (f : Field) →
+        fieldIn (valueAt t i) line ≡ f →
+        Shown Here (fieldFault (valueAt t i) f)
     unfolding fieldFault
-    field-shown i h Blank e = notInFormat t i type h (λ k g. let z : _≡_ {A = ℕ} 0 1 = cc in omega arith)
-    field-shown i h Malformed e = notInFormat t i type h (λ k g. let z : _≡_ {A = ℕ} 0 1 = cc in omega arith)
-    field-shown i h (Number k) e =
-        test-shown Here (inRange (valueAt t i) k) 8 _ (λ g. valueOutside t i k type h e (outside (valueAt t i) k g)) (λ y.
+    field-shown i other o h Blank e = no-number i o h Blank e (λ k g. let z : _≡_ {A = ℕ} 0 1 = cc in omega arith)
+    field-shown i other o h Malformed e = no-number i o h Malformed e (λ k g. let z : _≡_ {A = ℕ} 0 1 = cc in omega arith)
+    field-shown i other o h (Number k) e =
+        test-shown Here (inRange (valueAt t i) k) 8 _ (λ g. valueOutside t i k other type h e (outside (valueAt t i) k g)) (λ y.
         unless-shown Here (wholeSteps (valueAt t i) k) 42 (λ g. flow-shown t type i k h e (in-range-true (valueAt t i) k y) (eqb-false _ _ g)))
 
-    fields-shown : Shown Here (valuesFault (valuesOf t) line)
-    fields-shown = values-shown Here line (valuesOf t) (λ i h. field-shown i h (fieldIn (valueAt t i) line) refl)
+    fields-shown : (t ≡ Operation → ⊥) → Shown Here (valuesFault (valuesOf t) line)
+    fields-shown other = values-shown Here line (valuesOf t)
+        (λ i h. field-shown i (λ e z. other e) (λ e z. absurd (other e)) h (fieldIn (valueAt t i) line) refl)
 
-    date-shown : (date : List ℕ) → (c : ℕ) → dateColumn t ≡ c → Shown Here (dateFault c date line)
+    date-shown : (t ≡ Operation → operates line ≡ true) → (date : List ℕ) → (c : ℕ) → dateColumn t ≡ c → Shown Here (dateFault c date line)
     unfolding dateFault
-    date-shown date zero e = tt
-    date-shown date (suc c) e = unless-shown Here (same (columns (suc c) dateWidth line) date) 6 (λ g. otherDate t type (omega arith))
+    date-shown o date zero e = tt
+    date-shown o date (suc c) e = unless-shown Here (same (columns (suc c) dateWidth line) date) 6 (λ g. otherDate t o type (omega arith))
 
-  due-shown : (d : Due) → Shown Here (dueFault facility d line)
+  due-shown : (d : Due) → (d .type ≡ Operation → ⊥) → Shown Here (dueFault facility d line)
   unfolding dueFault
-  due-shown d =
+  due-shown d other =
       or-shown Here (commonFault facility (d .type) line) _ (common-shown (d .type)) (λ z.
       let type = shape-type (d .type) line (common-shape facility (d .type) line z) in
-      or-shown Here (dateFault (dateColumn (d .type)) (d .date) line) _ (date-shown (d .type) type (d .date) (dateColumn (d .type)) refl) (λ y.
-      fields-shown (d .type) type))
+      or-shown Here (dateFault (dateColumn (d .type)) (d .date) line) _
+      (date-shown (d .type) type (λ e. absurd (other e)) (d .date) (dateColumn (d .type)) refl) (λ y.
+      fields-shown (d .type) type other))
 
-  rising-shown : typeIs So2Concentration line ≡ true → (from : ℕ) (h : QuarterHour) → hourOn (periodOn facility) line ≡ h → Shown Here (risingFault from h)
+  rising-shown : (t : RecordType) → Rises t → typeIs t line ≡ true → (from : ℕ) (h : QuarterHour) → hourOn (periodOn facility) t line ≡ h →
+      Shown Here (risingFault from h)
   unfolding risingFault
-  rising-shown type from Outside e = hourOutside type e
-  rising-shown type from (At h) e = unless-shown Here (leb from h) 5 (λ g. hourNotLater h type e)
+  rising-shown t r type from Outside e = hourOutside t r type e
+  rising-shown t r type from (At h) e = unless-shown Here (leb from h) 5 (λ g. hourNotLater t h r type e)
+
+  dated-shown : (t : RecordType) → Rises t → (from : ℕ) → Shown Here (datedFault facility (periodOn facility) t from line)
+  unfolding datedFault
+  dated-shown t r from =
+      or-shown Here (commonFault facility t line) _ (common-shown t) (λ z.
+      rising-shown t r (shape-type t line (common-shape facility t line z)) from (hourOn (periodOn facility) t line) refl)
+
+  dated-type : (t : RecordType) (from : ℕ) → datedFault facility (periodOn facility) t from line ≡ 0 → typeIs t line ≡ true
+  dated-type t from z = shape-type t line (dated-shape facility (periodOn facility) t from line z)
 
   hour-shown : (from : ℕ) → Shown Here (hourFault facility (periodOn facility) from line)
   unfolding hourFault
   hour-shown from =
-      or-shown Here (commonFault facility So2Concentration line) _ (common-shown So2Concentration) (λ z.
-      let type = shape-type So2Concentration line (common-shape facility So2Concentration line z) in
-      or-shown Here (risingFault from (hourOn (periodOn facility) line)) _ (rising-shown type from (hourOn (periodOn facility) line) refl) (λ y.
-      fields-shown So2Concentration type))
+      or-shown Here (datedFault facility (periodOn facility) So2Concentration from line) _ (dated-shown So2Concentration (inl refl) from) (λ z.
+      fields-shown So2Concentration (dated-type So2Concentration from z) so2-other)
+
+  -- a 300 line
+
+  module _ (type : typeIs Operation line ≡ true) where
+    time-shown : (f : Field) → timeIn line ≡ f → Shown Here (fieldFault listedTime f)
+    unfolding fieldFault
+    time-shown Blank e = no-number Operation type 0 (λ e z. absurd (omega arith)) (omega arith) Blank e (λ k g. let z : _≡_ {A = ℕ} 0 1 = cc in omega arith)
+    time-shown Malformed e =
+        no-number Operation type 0 (λ e z. absurd (omega arith)) (omega arith) Malformed e (λ k g. let z : _≡_ {A = ℕ} 0 1 = cc in omega arith)
+    time-shown (Number k) e =
+        test-shown Here (inRange listedTime k) 8 _ (λ g. timeOutside k type e (above k g)) (λ y.
+        unless-shown Here (wholeSteps listedTime k) 42 (λ g. absurd (eqb-false (k % 1) 0 g (omega arith))))
+      where
+        above : (k : ℕ) → inRange listedTime k ≡ false → listedTime .most < k
+        above k g = go (decLt (listedTime .most) k)
+          where
+            go : Dec (listedTime .most < k) → listedTime .most < k
+            go (yes l) = l
+            go (no l) = absurd (outside listedTime k g (omega arith))
+
+    idle-shown : numberOf (timeIn line) ≡ 0 → fieldFault listedTime (timeIn line) ≡ 0 → (f : Field) → fieldIn heatRate line ≡ f → Shown Here (idleFault f)
+    unfolding idleFault
+    idle-shown z r Blank e = tt
+    idle-shown z r Malformed e = heatGiven type (zero-time (timeIn line) z r) (λ g. let y : _≡_ {A = ℕ} 0 1 = cc in omega arith)
+    idle-shown z r (Number k) e = heatGiven type (zero-time (timeIn line) z r) (λ g. let y : _≡_ {A = ℕ} 0 1 = cc in omega arith)
+
+    operating-shown : operates line ≡ true → (date : List ℕ) → Shown Here (operatingFault date line)
+    unfolding operatingFault
+    operating-shown o date =
+        or-shown Here (dateFault (dateColumn Operation) date line) _ (date-shown Operation type (λ e. o) date (dateColumn Operation) refl) (λ y.
+        field-shown Operation type 1 (λ e z. absurd (omega arith)) (λ e z. o) (omega arith) (fieldIn heatRate line) refl)
+
+    timed-shown : (date : List ℕ) → Shown Here (timedFault date line)
+    unfolding timedFault operates
+    timed-shown date =
+        or-shown Here (fieldFault listedTime (timeIn line)) _ (time-shown (timeIn line) refl) (λ r. go (operates line) refl r)
+      where
+        go : (b : Bool) → operates line ≡ b → fieldFault listedTime (timeIn line) ≡ 0 →
+            Shown Here (cond b (operatingFault date line) (idleFault (fieldIn heatRate line)))
+        go true e r = operating-shown e date
+        go false e r = idle-shown (omega (arith, ltb-false 0 (numberOf (timeIn line)) e)) r (fieldIn heatRate line) refl
+
+  operation-shown : (from : ℕ) (date : List ℕ) → Shown Here (operationFault facility (periodOn facility) from date line)
+  unfolding operationFault
+  operation-shown from date =
+      or-shown Here (datedFault facility (periodOn facility) Operation from line) _ (dated-shown Operation (inr refl) from) (λ z.
+      timed-shown (dated-type Operation from z) date)
 
 facility-shown : (line : List ℕ) → Shown (Shows line line) (facilityFault line)
 unfolding facilityFault
@@ -143,8 +222,9 @@ facility-shown line =
     unless-shown (Shows line line) (within quarterDigit (digitsIn quarterDigit line)) 5 (λ e.
     quarterOutside type (not-within quarterDigit _ (omega arith) e)))))
 
-pub due-shows : (facility : List ℕ) (d : Due) (line : List ℕ) (c : ℕ) → dueFault facility d line ≡ suc c → Shows facility line (suc c)
-due-shows facility d line c e = rw e at (due-shown facility line d)
+pub due-shows : (facility : List ℕ) (d : Due) → (d .type ≡ Operation → ⊥) → (line : List ℕ) (c : ℕ) → dueFault facility d line ≡ suc c →
+    Shows facility line (suc c)
+due-shows facility d other line c e = rw e at (due-shown facility line d other)
 
 pub facility-shows : (line : List ℕ) (number : ℕ) → facilityLine line ≡ FaultyFacility number → Shows line line number
 unfolding facilityLine
@@ -162,9 +242,27 @@ unfolding hourLine
 hour-shows facility from line number e = go (hourFault facility (periodOn facility) from line) (hour-shown facility line from) e
   where
     go : (f : ℕ) → Shown (Shows facility line) f →
-        elim f [ zero ↦ OfHour (hourNumber (hourOn (periodOn facility) line)) | suc c ↦ FaultyHour (suc c) ] ≡ FaultyHour number →
+        elim f [ zero ↦ OfHour (hourIn (periodOn facility) So2Concentration line) | suc c ↦ FaultyHour (suc c) ] ≡ FaultyHour number →
         Shows facility line number
     go zero s k = absurd (let z : _≡_ {A = ℕ} 0 1 = cc in omega arith)
+    go (suc c) s k = let n : suc c ≡ number = cc in rw n at s
+
+pub operation-shows : (facility : List ℕ) (from : ℕ) (date line : List ℕ) (number : ℕ) →
+    operationLine facility (periodOn facility) from date line ≡ FaultyOperation number → Shows facility line number
+unfolding operationLine saidOf
+operation-shows facility from date line number e =
+    go (operationFault facility (periodOn facility) from date line) (operation-shown facility line from date) e
+  where
+    hour : ℕ
+    hour = hourIn (periodOn facility) Operation line
+
+    either : (b : Bool) → cond b (Operating hour) (Idle hour) ≡ FaultyOperation number → ⊥
+    either true k = let z : _≡_ {A = ℕ} 0 1 = cc in omega arith
+    either false k = let z : _≡_ {A = ℕ} 0 1 = cc in omega arith
+
+    go : (f : ℕ) → Shown (Shows facility line) f → saidOf f (cond (operates line) (Operating hour) (Idle hour)) ≡ FaultyOperation number →
+        Shows facility line number
+    go zero s k = absurd (either (operates line) k)
     go (suc c) s k = let n : suc c ≡ number = cc in rw n at s
 
 -- the numbers of the rows
@@ -176,9 +274,11 @@ shows-number (blankStack type e) = refl
 shows-number (otherStack e) = refl
 shows-number (yearOutside type e) = refl
 shows-number (quarterOutside type e) = refl
-shows-number (hourOutside type e) = refl
-shows-number (hourNotLater hour type e) = refl
-shows-number (otherDate t type h) = refl
-shows-number (notInFormat t i type h e) = refl
-shows-number (valueOutside t i k type h e w) = refl
+shows-number (hourOutside t r type e) = refl
+shows-number (hourNotLater t hour r type e) = refl
+shows-number (otherDate t o type h) = refl
+shows-number (notInFormat t i o type h e) = refl
+shows-number (valueOutside t i k other type h e w) = refl
+shows-number (timeOutside k type e w) = refl
 shows-number (notThousands k type e b n) = refl
+shows-number (heatGiven type e n) = refl

@@ -4,10 +4,10 @@ use columns::Field;
 use layout::RecordType;
 use layout::Value;
 ghost use mathlib.Core.Path.{_≡_};
-ghost use Prim.Native.Nat.{_≤_};
+ghost use Prim.Native.Nat.{_+_, _-_, _≤_};
 ghost use lib.ListN.{length};
 ghost use Rattle.columns.specs.Columns.{Inside};
-ghost use Rattle.layout.specs.Layout.{lengthOf, valuesOf, dateColumn};
+ghost use Rattle.layout.specs.Layout.{lengthOf, valuesOf, dateWidth};
 ghost use Rattle.layout.specs.ValueLaws.{ValueInside};
 ghost use Rattle.lines.specs.Lines.{firstLine};
 ghost use Rattle.lines.specs.LineFaults.{stackFault, commonFault, digitsIn, fieldFault, fieldIn, valuesFault, dateFault};
@@ -50,7 +50,7 @@ pub fn digits_in(line: &[u8], v: Value) -> u64
 }
 
 // 8, 9 and 43.
-fn field_fault(v: Value, field: Field) -> u64
+pub fn field_fault(v: Value, field: Field) -> u64
     requires { ⌜ 1 ≤ v .step ⌝ }
     ensures { λ r. ⌜ r ≡ fieldFault v field ⌝ }
 {
@@ -69,7 +69,7 @@ fn field_fault(v: Value, field: Field) -> u64
     }
 }
 
-fn value_fault(line: &[u8], t: RecordType, v: Value) -> u64
+pub fn value_fault(line: &[u8], t: RecordType, v: Value) -> u64
     requires { ⌜ (length (now line) ≡ lengthOf t) × ValueInside t v ⌝ }
     ensures { λ r. ⌜ r ≡ fieldFault v (fieldIn v (now (line .entry))) ⌝ }
 {
@@ -93,12 +93,11 @@ pub fn values_fault(line: &[u8], t: RecordType) -> u64
     0
 }
 
-// 7: a date and hour that must be `date`; a type without one has none.
-pub fn date_fault(line: &[u8], date: &[u8], t: RecordType) -> u64
-    requires { ⌜ length (now line) ≡ lengthOf t ⌝ }
-    ensures { λ r. ⌜ r ≡ dateFault (dateColumn t) (now (date .entry)) (now (line .entry)) ⌝ }
+// 7: a date and hour that must be `date`, from its column on; a type without one has column 0.
+pub fn date_fault(line: &[u8], date: &[u8], column: usize) -> u64
+    requires { ⌜ column - 1 + dateWidth ≤ length (now line) ⌝ }
+    ensures { λ r. ⌜ r ≡ dateFault column (now (date .entry)) (now (line .entry)) ⌝ }
 {
-    let column = layout::date_column(t);
     if column == 0 {
         return 0;
     }

@@ -1,5 +1,6 @@
-// The faults of one line, in the order in which they are looked for, and what lines 100 and 200 say.
+// The faults of one line, in the order in which they are looked for, and what lines 100, 200 and 300 say.
 mod faults;
+pub mod operation;
 pub mod shape;
 
 use calendar::QuarterHour;
@@ -8,9 +9,9 @@ ghost use mathlib.Core.Path.{_≡_};
 ghost use Prim.Native.Nat.{_≤_};
 ghost use lib.ListN.{length};
 ghost use Rattle.calendar.specs.Calendar.{IsQuarter};
-ghost use Rattle.layout.specs.Layout.{lengthOf};
+ghost use Rattle.layout.specs.Layout.{lengthOf, dateColumn};
 ghost use Rattle.lines.specs.Lines.{firstLine};
-ghost use Rattle.lines.specs.LineFaults.{facilityLine, hourLine, dueOf, dueFault};
+ghost use Rattle.lines.specs.LineFaults.{facilityLine, datedLine, hourLine, dueOf, dueFault};
 
 // The year and the quarter that a report is of.
 pub struct Period {
@@ -24,7 +25,7 @@ pub enum FacilityLine {
     Faulty(u64),
 }
 
-// The hour of the quarter that a 200 line is for, or the number of its fault.
+// The hour of the quarter that a line is for, or the number of its fault.
 pub enum HourLine {
     At(u64),
     Faulty(u64),
@@ -53,29 +54,50 @@ pub fn facility_line(rest: &[u8]) -> FacilityLine
     FacilityLine::Of(Period { year, quarter })
 }
 
-// A 200 line, whose hour of the quarter must be at least `from`.
-pub fn hour_line(facility: &[u8], rest: &[u8], period: Period, from: u64) -> HourLine
-    requires { ⌜ (lengthOf RecordType.Facility ≤ length (now facility)) × IsQuarter (period .quarter) ⌝ }
-    ensures { λ r. ⌜ r ≡ hourLine (now (facility .entry)) period from (firstLine (now (rest .entry))) ⌝ }
+// 2 to 6: a line of a type with a date, whose hour of the quarter must be at least `from`.
+fn dated_line(facility: &[u8], rest: &[u8], t: RecordType, period: Period, from: u64) -> HourLine
+    requires { ⌜ (lengthOf RecordType.Facility ≤ length (now facility)) × IsQuarter (period .quarter) × (1 ≤ dateColumn t) ⌝ }
+    ensures { λ r. ⌜ r ≡ datedLine (now (facility .entry)) period t from (firstLine (now (rest .entry))) ⌝ }
 {
-    let common = faults::common_fault(facility, rest, RecordType::So2Concentration);
+    let common = faults::common_fault(facility, rest, t);
     if common != 0 {
         return HourLine::Faulty(common);
     }
-    let line = &rest[..layout::SO2_LENGTH];
-    let hour = stamp::read_stamp(line, layout::SO2_DATE, period.year, period.quarter);
+    let hour = stamp::read_stamp(
+        &rest[..layout::line_length(t)],
+        layout::date_column(t),
+        period.year,
+        period.quarter,
+    );
     match hour {
         QuarterHour::At(at) => {
             if at < from {
                 return HourLine::Faulty(6);
             }
-            let fault = faults::values_fault(line, RecordType::So2Concentration);
-            if fault != 0 {
-                return HourLine::Faulty(fault);
-            }
             HourLine::At(at)
         }
         QuarterHour::Outside => HourLine::Faulty(6),
+    }
+}
+
+// A 200 line.
+pub fn hour_line(facility: &[u8], rest: &[u8], period: Period, from: u64) -> HourLine
+    requires { ⌜ (lengthOf RecordType.Facility ≤ length (now facility)) × IsQuarter (period .quarter) ⌝ }
+    ensures { λ r. ⌜ r ≡ hourLine (now (facility .entry)) period from (firstLine (now (rest .entry))) ⌝ }
+{
+    let dated = dated_line(facility, rest, RecordType::So2Concentration, period, from);
+    match dated {
+        HourLine::At(hour) => {
+            let fault = faults::values_fault(
+                &rest[..layout::SO2_LENGTH],
+                RecordType::So2Concentration,
+            );
+            if fault != 0 {
+                return HourLine::Faulty(fault);
+            }
+            HourLine::At(hour)
+        }
+        HourLine::Faulty(number) => HourLine::Faulty(number),
     }
 }
 
@@ -88,9 +110,9 @@ pub fn due_fault(facility: &[u8], date: &[u8], rest: &[u8], t: RecordType) -> u6
     if common != 0 {
         return common;
     }
-    let long = layout::line_length(t);
-    let line = &rest[..long];
-    let dated = faults::date_fault(line, date, t);
+    let row = layout::row_of(t);
+    let line = &rest[..row.length];
+    let dated = faults::date_fault(line, date, row.date);
     if dated != 0 {
         return dated;
     }

@@ -212,10 +212,10 @@ fn sheet_room() -> [u32; 14000]
 }
 
 // Room for the cases.
-fn data_room() -> [u8; 2200000]
-    ensures { λ r. ⌜ 2200000 ≡ length r ⌝ }
+fn data_room() -> [u8; 2700000]
+    ensures { λ r. ⌜ 2700000 ≡ length r ⌝ }
 {
-    [0; 2200000]
+    [0; 2700000]
 }
 
 // Room for the longest report.

@@ -2,4 +2,5 @@
 pub mod Runs
 pub mod Walking
 pub mod Rising
+pub mod Listing
 pub mod Starting

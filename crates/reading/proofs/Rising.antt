@@ -1,5 +1,5 @@
 -- The walk over the 200 lines, one line further: what is left from here is what the whole is, and the hours rise.
-use Prim.Native.Nat.{ℕ, suc, _+_, _-_, _≤_, _<_}
+use Prim.Native.Nat.{ℕ, suc, _+_, _≤_, _<_}
 use mathlib.Core.Path.{_≡_, refl, sym, ap, _∙_}
 use mathlib.Core.List.{List, [], _∷_, _++_}
 use mathlib.Core.Bool.{true, false}
@@ -12,7 +12,7 @@ use Rattle.layout.specs.Layout.{lengthOf, dateColumn, dateWidth}
 use Rattle.layout.specs.declared.RecordType.the-variants.{Facility, So2Concentration}
 use Rattle.lines.specs.Lines.{firstLine, lines}
 use Rattle.lines.specs.LineLaws.{lines-at, line-at, line-part}
-use Rattle.lines.specs.LineFaults.{typeIs, dateOn, hourOn, hourFault, hourNumber, hourLine}
+use Rattle.lines.specs.LineFaults.{typeIs, dateOn, hourIn, hourFault, hourLine}
 use Rattle.lines.specs.FaultLaws.{shape-length, hour-shape, hour-rises, hour-said, columns-of-line}
 use Rattle.lines.specs.declared.Period.{Period}
 use Rattle.lines.specs.declared.HourLine.{HourLine}
@@ -20,11 +20,15 @@ use Rattle.lines.specs.declared.HourLine.the-variants.{At, Faulty}
 use Rattle.reading.specs.Reading.{stoppedAt, walkLater, walkHours}
 use Rattle.reading.specs.Places.{facilityOf, dateIn, datesIn, Counted, hourStart}
 use Rattle.reading.specs.declared.Reading.{Reading}
-use Rattle.reading.proofs.Walking.{no-lines, laterWhole}
+use Rattle.reading.proofs.Walking.{no-lines}
 
 -- the date on the 200 line of rank n is where it is looked for later
 date-there : (file : List ℕ) (n at : ℕ) → at ≡ hourStart n → columns (at + dateColumn So2Concentration) dateWidth file ≡ dateIn file n
 date-there file n at e = rw e
+
+-- what the lines behind n 200 lines come to
+abbrev pub laterWhole : List ℕ → Period → ℕ → Reading
+laterWhole file period n = walkLater (facilityOf file) period (2 + n) (datesIn file n) (lines (drop (hourStart n) file))
 
 -- what the lines behind the facility line come to
 abbrev pub hoursWhole : List ℕ → Period → Reading
@@ -71,7 +75,7 @@ module _ (file : List ℕ) (period : Period) (n from at : ℕ) (w : Rising file 
       abbrev after : HourLine → Reading
       after h = elim h [
         | At hour ↦
-            walkHours (facilityOf file) period (2 + n + 1) (hour + 1) (datesIn file n ++ (dateOn (firstLine (drop at file)) ∷ []))
+            walkHours (facilityOf file) period (2 + n + 1) (hour + 1) (datesIn file n ++ (dateOn So2Concentration (firstLine (drop at file)) ∷ []))
             (lines (drop (at + (length (firstLine (drop at file)) + 1)) file))
         | Faulty number ↦ stoppedAt number (2 + n)
       ]
@@ -86,7 +90,7 @@ module _ (file : List ℕ) (period : Period) (n from at : ℕ) (w : Rising file 
       rising-found number e = sym (judged ∙ ap after e) ∙ w .left
 
       module _ (hour : ℕ) (e : hourLine (facilityOf file) period from (firstLine (drop at file)) ≡ At hour) where
-        said : (hourFault (facilityOf file) period from (firstLine (drop at file)) ≡ 0) × (hourNumber (hourOn period (firstLine (drop at file))) ≡ hour)
+        said : (hourFault (facilityOf file) period from (firstLine (drop at file)) ≡ 0) × (hourIn period So2Concentration (firstLine (drop at file)) ≡ hour)
         said = hour-said (facilityOf file) period from (firstLine (drop at file)) hour e
 
         long : length (firstLine (drop at file)) ≡ lengthOf So2Concentration
@@ -98,7 +102,7 @@ module _ (file : List ℕ) (period : Period) (n from at : ℕ) (w : Rising file 
         pub rising-below : IsQuarter (period .quarter) → (from ≤ hour) × (hour < mostHours)
         rising-below q = let r = hour-rises (facilityOf file) period from (firstLine (drop at file)) (said .0) q in rw (said .1) at r
 
-        date-first : dateOn (firstLine (drop at file)) ≡ dateIn file n
+        date-first : dateOn So2Concentration (firstLine (drop at file)) ≡ dateIn file n
         date-first =
             rw (line-at file at (lengthOf So2Concentration) long)
             (columns-of-line file at (lengthOf So2Concentration) (dateColumn So2Concentration) dateWidth (omega arith) (omega arith)

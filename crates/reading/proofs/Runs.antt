@@ -7,13 +7,13 @@ use native.Mathlib.Decide.{decLt}
 use native.Mathlib.Nat.{add-sub-cancel-left}
 use native.Mathlib.Numerals.{add-one}
 use lib.ListN.{length, take, drop, getD, length-append, length-map, drop-of-length-le, List·getD-append, List·getD-map}
-use lib.Seq.{drop-cons, getD-append-seam}
+use lib.Seq.{drop-cons, getD-append-seam, getD-take, length-take-le}
 use Rattle.columns.specs.Columns.{columns}
 use Rattle.layout.specs.Layout.{recordOf, lengthOf, dateColumn, dateWidth, rowOf, order, typeAt, linesOf, countOf, shape}
 use Rattle.layout.specs.declared.RecordType.{RecordType}
 use Rattle.layout.specs.declared.RecordType.the-variants.{Facility, So2Concentration}
 use Rattle.layout.specs.declared.Run.{Run}
-use Rattle.layout.specs.declared.Run.the-variants.{Once, Hourly}
+use Rattle.layout.specs.declared.Run.the-variants.{Once, Hourly, Listed}
 use Rattle.layout.specs.declared.Row.{Row}
 use Rattle.lines.specs.LineFaults.{dueOf}
 use Rattle.reading.specs.Reading.{datesOf, runOf, runsOf}
@@ -40,7 +40,28 @@ dates-at file (suc n) k h = go (dates-at file n k) (decLt k n)
         rw e (ap (λ (i : ℕ). getD (datesIn file n ++ (dateIn file n ∷ [])) i []) (sym (dates-length file n))
         ∙ getD-append-seam (datesIn file n) (dateIn file n) [] [])
 
+-- of those from rank k on: the first, and that none is left
+pub first-left : (file : List ℕ) (n k : ℕ) → k < n → drop k (datesIn file n) ≡ dateIn file k ∷ drop (k + 1) (datesIn file n)
+first-left file n k h =
+    let m : k < length (datesIn file n) = omega (arith, dates-length file n) in
+    drop-cons (datesIn file n) k [] m ∙ rw (dates-at file n k h, add-one k)
+
+pub dates-over : (file : List ℕ) (n k : ℕ) → n ≤ k → drop k (datesIn file n) ≡ []
+dates-over file n k h = let b : length (datesIn file n) ≤ k = omega (arith, dates-length file n) in drop-of-length-le (datesIn file n) b
+
 -- the lines of one type that are due
+
+module _ (file : List ℕ) (n : ℕ) (t : RecordType) (k : ℕ) where
+  due-one : k < n → drop k (map (dueOf t) (datesIn file n)) ≡ dueOf t (dateIn file k) ∷ drop (k + 1) (map (dueOf t) (datesIn file n))
+  due-one h =
+      let m : k < length (map (dueOf t) (datesIn file n)) = rw length-map (omega (arith, dates-length file n)) in
+      drop-cons (map (dueOf t) (datesIn file n)) k (dueOf t []) m
+      ∙ rw (List·getD-map (dueOf t) (datesIn file n) k [], dates-at file n k h, add-one k)
+
+  due-end : n ≤ k → drop k (map (dueOf t) (datesIn file n)) ≡ []
+  due-end h =
+      let m : length (map (dueOf t) (datesIn file n)) ≤ k = rw length-map (omega (arith, dates-length file n)) in
+      drop-of-length-le (map (dueOf t) (datesIn file n)) m
 
 module _ (file : List ℕ) (n : ℕ) (t : RecordType) (k : ℕ) where
   pub run-one : k < countOf (shape n) t → drop k (runOf t (datesIn file n)) ≡ dueOf t (dateDue file t k) ∷ drop (k + 1) (runOf t (datesIn file n))
@@ -51,10 +72,8 @@ module _ (file : List ℕ) (n : ℕ) (t : RecordType) (k : ℕ) where
           drop i (map (dueOf t) (datesOf run (datesIn file n))) ≡ dueOf t (dateFor run file i) ∷ drop (i + 1) (map (dueOf t) (datesOf run (datesIn file n)))
       go Once zero h = refl
       go Once (suc i) h = absurd (omega arith)
-      go Hourly i h =
-          let m : i < length (map (dueOf t) (datesIn file n)) = rw length-map (omega (arith, dates-length file n)) in
-          drop-cons (map (dueOf t) (datesIn file n)) i (dueOf t []) m
-          ∙ rw (List·getD-map (dueOf t) (datesIn file n) i [], dates-at file n i h, add-one i)
+      go Hourly i h = due-one file n t i h
+      go Listed i h = due-one file n t i h
 
   pub run-end : countOf (shape n) t ≤ k → drop k (runOf t (datesIn file n)) ≡ []
   unfolding runOf
@@ -62,9 +81,8 @@ module _ (file : List ℕ) (n : ℕ) (t : RecordType) (k : ℕ) where
     where
       go : (run : Run) → linesOf run (shape n) ≤ k → drop k (map (dueOf t) (datesOf run (datesIn file n))) ≡ []
       go Once h = drop-of-length-le (dueOf t [] ∷ []) h
-      go Hourly h =
-          let m : length (map (dueOf t) (datesIn file n)) ≤ k = rw length-map (omega (arith, dates-length file n)) in
-          drop-of-length-le (map (dueOf t) (datesIn file n)) m
+      go Hourly h = due-end file n t k h
+      go Listed h = due-end file n t k h
 
 -- what a row says of its run, from the row that the code has
 module _ (t : RecordType) {r : Row} {run : Run} (e : r ≡ rowOf t) (f : r .run ≡ run) where
@@ -88,13 +106,20 @@ date-part file k =
     let here : hourStart k + dateColumn So2Concentration - 1 ≡ dateFrom k = omega arith in
     rw (here, add-sub-cancel-left (dateFrom k) dateWidth)
 
--- the types that follow
+-- the types that follow, up to the place `end`
 
-module _ (place : ℕ) (dates : List (List ℕ)) where
-  pub runs-one : place < length order → runsOf (drop place order) dates ≡ runOf (typeAt place) dates ++ runsOf (drop (place + 1) order) dates
-  unfolding runsOf
-  runs-one h = rw (add-one place) (ap (λ (ts : List RecordType). runsOf ts dates) (drop-cons order place Facility h))
+module _ (place end : ℕ) (dates : List (List ℕ)) (b : end ≤ length order) where
+  few : length (take end order) ≡ end
+  few = length-take-le end order b
 
-  pub runs-end : length order ≤ place → runsOf (drop place order) dates ≡ []
+  pub runs-one : place < end → runsOf (drop place (take end order)) dates ≡ runOf (typeAt place) dates ++ runsOf (drop (place + 1) (take end order)) dates
   unfolding runsOf
-  runs-end h = rw (drop-of-length-le order h)
+  runs-one h =
+      let m : place < length (take end order) = omega (arith, few) in
+      let e : getD (take end order) place Facility ≡ typeAt place = getD-take end order place Facility h in
+      rw (add-one place) (ap (λ (ts : List RecordType). runsOf ts dates) (drop-cons (take end order) place Facility m)
+      ∙ ap (λ t. runOf t dates ++ runsOf (drop (suc place) (take end order)) dates) e)
+
+  pub runs-end : end ≤ place → runsOf (drop place (take end order)) dates ≡ []
+  unfolding runsOf
+  runs-end h = let m : length (take end order) ≤ place = omega (arith, few) in rw (drop-of-length-le (take end order) m)

@@ -1,17 +1,18 @@
 -- A file whose lines are right: what the crates above use of it.
 use Prim.Native.Nat.{ℕ, _+_, _*_, _≤_, _<_}
-use mathlib.Core.Path.{_≡_, refl, sym, subst, _∙_}
+use mathlib.Core.Path.{_≡_, refl, sym, ap, subst, _∙_}
 use mathlib.Core.List.{List, []}
 use mathlib.Core.Bool.{Bool, true, false}
 use native.Mathlib.Omega.{arith}
 use native.Mathlib.Decide.{decLt}
 use lib.Dec.{eqb}
-use lib.ListN.{length, take, drop, drop-of-length-le}
+use lib.ListN.{length, drop, drop-of-length-le}
 use borrow.Author.Tests.{eqb-true}
 use Rattle.exact.specs.Fraction.{whole}
 use Rattle.calendar.specs.Calendar.{IsQuarter}
-use Rattle.layout.specs.Layout.{lengthOf, valueCount, valuesOf, valueAt, noValue, yearDigits, quarterDigit, order, countOf, offsetOf}
-use Rattle.layout.specs.Layout.{reportLength, Within}
+use Rattle.exact.specs.Sums.{totalOf}
+use Rattle.layout.specs.Layout.{lengthOf, valueCount, valuesOf, valueAt, noValue, yearDigits, quarterDigit, order, countOf, lineOf, offsetOf}
+use Rattle.layout.specs.Layout.{reportLength, shape, shapeWith, Within}
 use Rattle.layout.specs.LayoutLaws.{flow-within}
 use Rattle.layout.specs.declared.RecordType.{RecordType}
 use Rattle.layout.specs.declared.RecordType.the-variants.{Facility, So2Concentration, NoxConcentration, Co2Concentration, VolumetricFlow, Operation}
@@ -22,18 +23,19 @@ use Rattle.formulas.specs.Hour.{HourWithin, asRecorded}
 use Rattle.formulas.specs.FormulaLaws.{flow-exact}
 use Rattle.lines.specs.Lines.{firstLine, lines, last}
 use Rattle.lines.specs.LineLaws.{lines-at, line-at}
-use Rattle.lines.specs.LineFaults.{valuesFault, facilityFault, facilityLine}
+use Rattle.lines.specs.LineFaults.{typeIs, valuesFault, facilityFault, facilityLine, operates}
 use Rattle.lines.specs.FaultLaws.{shape-type, shape-length, values-within, facility-shape, facility-year, facility-quarter, facility-said}
 use Rattle.lines.specs.EndLaws.{line-within}
 use Rattle.lines.specs.declared.Period.{Period}
 use Rattle.lines.specs.declared.FacilityLine.{FacilityLine}
 use Rattle.lines.specs.declared.FacilityLine.the-variants.{Of, Faulty as FaultyFacility}
 use Rattle.reading.specs.Reading.{stoppedAt, walkHours, walk, readOf}
-use Rattle.reading.specs.Recorded.{valueOn, hourAt}
-use Rattle.reading.specs.Places.{Standing, hourStart}
-use Rattle.reading.specs.CleanLaws.{never-clean, LineRight, RunsRight, runs-size, order-line}
+use Rattle.reading.specs.Recorded.{Line, linesWith, recordAt, valueOn, hourAt}
+use Rattle.reading.specs.Places.{linesAt, numbered, having, lineAt, Standing, hourStart}
+use Rattle.reading.specs.RecordedLaws.{record-runs}
+use Rattle.reading.specs.CleanLaws.{never-clean, LineRight, RunsRight, order-line}
 use Rattle.reading.specs.HoursLaws.{HoursRight, hours-right}
-use Rattle.reading.specs.RecordLaws.{records-placed, record-at}
+use Rattle.reading.specs.RecordLaws.{lines-placed, operating-records, stands, records-standing}
 use Rattle.reading.specs.declared.Report.{Report}
 use Rattle.reading.specs.declared.Reading.the-variants.{Clean}
 
@@ -42,12 +44,13 @@ pub record CleanFile (file : List ℕ) (r : Report) : Type 0 where
   pub year : Within yearDigits (r .period .year)
   pub quarter : Within quarterDigit (r .period .quarter)
   -- every value of every record lies in its range
-  pub values : (t : RecordType) (k i : ℕ) → k < countOf (r .shape) t → i < valueCount t → Within (valueAt t i) (valueOn file t k i)
+  pub values : (t : RecordType) (k i : ℕ) → k < countOf (shape (r .shape .hours)) t → i < valueCount t → Within (valueAt t i) (valueOn file t k i)
 
 pub clean-hour : (file : List ℕ) (r : Report) → CleanFile file r → (k : ℕ) → k < r .shape .hours → HourWithin (hourAt file k)
 unfolding hourAt
 clean-hour file r c k h =
-    let w : (t : RecordType) (i : ℕ) → k < countOf (r .shape) t → i < valueCount t → Within (valueAt t i) (valueOn file t k i) = λ t i. c .values t k i in
+    let w : (t : RecordType) (i : ℕ) → k < countOf (shape (r .shape .hours)) t → i < valueCount t → Within (valueAt t i) (valueOn file t k i) =
+    λ t i. c .values t k i in
     record {
       time = w Operation 0 h (omega arith);
       readings = record {
@@ -78,26 +81,42 @@ module _ (file : List ℕ) (ends : last file ≡ 10) (facility : List ℕ) where
       let f = facility-shape (firstLine file) e in
       let n = shape-length Facility (firstLine file) f in
       let l = line-at file 0 (lengthOf Facility) n in
-      record { type = rw l at (shape-type Facility (firstLine file) f); next = rw (n, l) at (lines-at file 0 b); values = refl }
+      record { type = rw l at (shape-type Facility (firstLine file) f); next = rw (n, l) at (lines-at file 0 b); values = λ i. refl }
 
-  whole-right : (period : Period) (q : IsQuarter (period .quarter)) (r : Report) → LineRight file ends facility Facility 0 →
-      HoursRight file ends facility period q 0 r →
-      RunsRight file ends facility order (r .shape) 0
-  unfolding RunsRight
-  whole-right period q r f h =
-      ((λ k b. let e : 0 + (lengthOf Facility + 1) * k ≡ 0 = omega arith in rw e f), ((λ k b. h .each k (omega arith) b), h .later))
+  module _ (period : Period) (q : IsQuarter (period .quarter)) (r : Report) (f : LineRight file ends facility Facility 0)
+      (h : HoursRight file ends facility period q 0 r) where
+    abbrev own : Shape
+    own = shapeWith (h .hours) (h .later .count)
 
-  module _ (s : Shape) (runs : RunsRight file ends facility order s 0) where
-    size-of : length file ≡ reportLength s
-    unfolding reportLength
-    size-of = sym (runs-size file ends facility order s 0 runs) ∙ omega arith
+    whole-right : RunsRight file ends facility order own 0
+    unfolding RunsRight
+    whole-right =
+        ((λ k b. let e : 0 + (lengthOf Facility + 1) * k ≡ 0 = omega arith in rw e f), ((λ k b. h .each k (omega arith) b), h .later .runs))
+
+    size-of : length file ≡ reportLength own
+    unfolding reportLength totalOf
+    size-of = omega (arith, h .later .size)
+
+    placed : (t : RecordType) → linesWith (typeIs t) 1 (lines file) ≡ numbered (lineOf own t 0) (linesAt file t (offsetOf own t 0) (countOf own t))
+    placed = lines-placed file ends facility own whole-right size-of
+
+    standing : Standing file own
+    standing = record {
+      size = size-of;
+      held = record { hours = h .most; operations = h .later .few };
+      lines = placed;
+      operating = ap length (operating-records file ∙ ap (having operates) (placed Operation)) ∙ h .later .operating (lineOf own Operation 0);
+    }
 
     -- every value of a record lies in its range
-    value-within : Standing file s → (t : RecordType) (k i : ℕ) → k < countOf s t → i < valueCount t → Within (valueAt t i) (valueOn file t k i)
+    value-within : (t : RecordType) (k i : ℕ) → k < countOf (shape (h .hours)) t → i < valueCount t → Within (valueAt t i) (valueOn file t k i)
     unfolding valueOn
-    value-within d t k i b h =
-        let l = order-line file ends facility s runs t k b in
-        rw (record-at file s d t k b) (values-within (valuesOf t) (take (lengthOf t) (drop (offsetOf s t k) file)) (l .values) i noValue h)
+    value-within t k i b v =
+        let p = stands file own standing t k b in
+        let l = order-line file ends facility own whole-right t (p .0) (p .1 .inside) in
+        let text : recordAt file t k .text ≡ lineAt file own t (p .0) .text = ap (λ (x : Line). x .text) (p .1 .there) in
+        let runs = record-runs file t k (omega (arith, records-standing file own standing t)) in
+        rw text (values-within (valuesOf t) (lineAt file own t (p .0) .text) (l .values (rw text at runs)) i noValue v)
 
 -- the first line is line 100; the others follow it
 walked : (file : List ℕ) → last file ≡ 10 → (r : Report) → walk (lines file) ≡ Clean r → CleanFile file r
@@ -122,20 +141,15 @@ walked file ends r w = go (decLt 0 (length file))
         hours-right file ends first period q (lines (drop (hourStart 0) file)) 2 0 0 [] r refl (omega (arith, line-within file 0 ends b)) refl
         (omega arith) (omega arith) (rw n at v)
         in
-        let runs = whole-right file ends first period q r (facility-first file ends first (f .0) b) h in
-        let s : Standing file (r .shape) =
+        let line = facility-first file ends first (f .0) b in
+        let own : CleanFile file (record { period = period; shape = shapeWith (h .hours) (h .later .count) }) =
         record {
-          size = size-of file ends first (r .shape) runs;
-          held = record { hours = h .most };
-          records = records-placed file ends first
-              (r .shape) runs;
+          standing = standing file ends first period q r line h;
+          year = y;
+          quarter = w;
+          values = value-within file ends first period q r line h;
         } in
-        record {
-          standing = s;
-          year = rw (h .report) y;
-          quarter = rw (h .report) w;
-          values = value-within file ends first (r .shape) runs s;
-        }
+        subst (CleanFile file) (sym (h .later .report)) own
 
     go : Dec (0 < length file) → CleanFile file r
     go (no h) =

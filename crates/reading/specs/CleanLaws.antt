@@ -1,6 +1,6 @@
 -- What a file whose lines are right is like: its length, and where each of its lines stands.
 use Prim.Native.Nat.{ℕ, zero, suc, _+_, _*_, _≤_, _<_}
-use mathlib.Core.Path.{_≡_, refl}
+use mathlib.Core.Path.{_≡_, refl, sym, _∙_}
 use mathlib.Core.List.{List, [], _∷_, _++_, map}
 use mathlib.Core.Bool.{Bool, true, false, cond}
 use native.Mathlib.Omega.{arith}
@@ -8,31 +8,31 @@ use native.Mathlib.Decide.{decLt}
 use native.Mathlib.Nat.{not-suc-le-zero, le-of-suc-le-suc}
 use lib.Dec.{eqb}
 use borrow.Author.Tests.{eqb-true, eq-eqb}
+use Rattle.exact.specs.Logic.{All}
 use Rattle.exact.specs.Sums.{totalOf}
 use lib.ListN.{length, take, drop, drop-of-length-le}
-use Rattle.layout.specs.Layout.{codeOf, lengthOf, valuesOf, recordOf, linesOf, order, placeOf, earlier, countOf, bytesOf, offsetOf, shape}
+use Rattle.layout.specs.Layout.{codeOf, lengthOf, valuesOf, recordOf, order, placeOf, earlier, countOf, bytesOf, offsetOf}
 use Rattle.layout.specs.LayoutLaws.{in-order}
 use Rattle.layout.specs.PlaceLaws.{front-bytes}
 use Rattle.layout.specs.TypeLaws.{code-tells}
 use Rattle.layout.specs.declared.RecordType.{RecordType}
-use Rattle.layout.specs.declared.Run.{Run}
 use Rattle.layout.specs.declared.Shape.{Shape}
-use Rattle.layout.specs.declared.Run.the-variants.{Once, Hourly}
 use Rattle.lines.specs.Lines.{firstLine, lines, last}
 use Rattle.lines.specs.LineLaws.{lines-at, line-at}
-use Rattle.lines.specs.LineFaults.{typeIs, valuesFault, Due, dueOf, dueFault}
+use Rattle.lines.specs.LineFaults.{typeIs, shapeFault, valuesFault, Due, dueOf, dueFault}
 use Rattle.lines.specs.FaultLaws.{shape-type, shape-length, due-shape, due-values}
 use Rattle.lines.specs.EndLaws.{line-within}
-use Rattle.reading.specs.Reading.{stoppedAt, datesOf, runOf, runsOf, walkDue, walk, readOf}
+use Rattle.reading.specs.Reading.{stoppedAt, datesOf, runOf, runsOf, After, walkDue, walk, readOf}
+use Rattle.reading.specs.Recorded.{idle}
 use Rattle.reading.specs.declared.Report.{Report}
+use Rattle.reading.specs.declared.Reading.{Reading}
 use Rattle.reading.specs.declared.Reading.the-variants.{Clean}
 
--- each line is the one that is due, without fault
-abbrev pub Matches : List ℕ → List Due → List (List ℕ) → Type 0
-Matches facility [] [] = Unit {0}
-Matches facility [] (l ∷ ls) = ⊥
-Matches facility (d ∷ ds) [] = ⊥
-Matches facility (d ∷ ds) (l ∷ ls) = (dueFault facility d l ≡ 0) × Matches facility ds ls
+-- the first lines are those that are due, without fault, and the rest follows
+abbrev pub Matches : List ℕ → List Due → List (List ℕ) → List (List ℕ) → Type 0
+Matches facility [] ls rest = ls ≡ rest
+Matches facility (d ∷ ds) [] rest = ⊥
+Matches facility (d ∷ ds) (l ∷ ls) rest = (dueFault facility d l ≡ 0) × Matches facility ds ls rest
 
 -- a file that ends in byte 10 is walked
 pub ended-walked : (file : List ℕ) → last file ≡ 10 → readOf file ≡ walk (lines file)
@@ -42,107 +42,130 @@ ended-walked file e = rw (eq-eqb (last file) 10 e, readOf)
 pub never-clean : {A : Type 0} (number line : ℕ) (r : Report) → stoppedAt number line ≡ Clean r → A
 never-clean number line r e = absurd (let z : _≡_ {A = ℕ} 0 1 = cc in omega arith)
 
-pub due-clean : (report : Report) (facility : List ℕ) (line : ℕ) (due : List Due) (ls : List (List ℕ)) (r : Report) →
-    walkDue report facility line due ls ≡ Clean r → (report ≡ r) × Matches facility due ls
+pub due-clean : (facility : List ℕ) (line : ℕ) (due : List Due) (ls : List (List ℕ)) (after : After) (r : Report) →
+    walkDue facility line due ls after ≡ Clean r → (rest : List (List ℕ)) × Matches facility due ls rest × (after (line + length due) rest ≡ Clean r)
 unfolding walkDue
-due-clean report facility line [] [] r e = (cc, tt)
-due-clean report facility line [] (l ∷ ls) r e = never-clean 2 line r e
-due-clean report facility line (d ∷ ds) [] r e = never-clean 10 line r e
-due-clean report facility line (d ∷ ds) (l ∷ ls) r e = go (dueFault facility d l) refl e (due-clean report facility (line + 1) ds ls r)
+due-clean facility line [] ls after r e = let z : line + 0 ≡ line = omega arith in (ls, refl, rw z e)
+due-clean facility line (d ∷ ds) [] after r e = never-clean 10 line r e
+due-clean facility line (d ∷ ds) (l ∷ ls) after r e = go (dueFault facility d l) refl e (due-clean facility (line + 1) ds ls after r)
   where
-    go : (f : ℕ) → dueFault facility d l ≡ f → elim f [ zero ↦ walkDue report facility (line + 1) ds ls | suc c ↦ stoppedAt (suc c) line ] ≡ Clean r →
-        (walkDue report facility (line + 1) ds ls ≡ Clean r → (report ≡ r) × Matches facility ds ls) →
-        (report ≡ r) × ((dueFault facility d l ≡ 0) × Matches facility ds ls)
-    go zero k w ih = let m = ih w in (m .0, (k, m .1))
+    next : Reading
+    next = walkDue facility (line + 1) ds ls after
+
+    go : (f : ℕ) → dueFault facility d l ≡ f → elim f [ zero ↦ next | suc c ↦ stoppedAt (suc c) line ] ≡ Clean r →
+        (next ≡ Clean r → (rest : List (List ℕ)) × Matches facility ds ls rest × (after (line + 1 + length ds) rest ≡ Clean r)) →
+        (rest : List (List ℕ)) × ((dueFault facility d l ≡ 0) × Matches facility ds ls rest) × (after (line + suc (length ds)) rest ≡ Clean r)
+    go zero k w ih =
+        let m = ih w in
+        let z : line + 1 + length ds ≡ line + suc (length ds) = omega arith in
+        (m .0, (k, m .1), rw z at (m .2))
     go (suc c) k w ih = never-clean (suc c) line r w
+
+-- lines that are due and come are passed
+pub matches-walked : (first : List ℕ) (line : ℕ) (due : List Due) (ls rest : List (List ℕ)) (after : After) → Matches first due ls rest →
+    walkDue first line due ls after ≡ after (line + length due) rest
+unfolding walkDue
+matches-walked first line [] ls rest after m = let z : line + 0 ≡ line = omega arith in rw (z, m)
+matches-walked first line (d ∷ ds) [] rest after m = absurd m
+matches-walked first line (d ∷ ds) (l ∷ ls) rest after m =
+    let z : line + 1 + length ds ≡ line + suc (length ds) = omega arith in
+    rw (m .0, walkDue, ← z) (matches-walked first (line + 1) ds ls rest after (m .1))
 
 -- the dates of a type's lines
 abbrev datesFor : RecordType → List (List ℕ) → List (List ℕ)
 datesFor t dates = datesOf (recordOf t .run) dates
 
-count-is : (t : RecordType) (dates : List (List ℕ)) → length (datesFor t dates) ≡ countOf (shape (length dates)) t
-count-is t dates = go (recordOf t .run)
-  where
-    go : (run : Run) → length (datesOf run dates) ≡ linesOf run (shape (length dates))
-    go Once = refl
-    go Hourly = refl
+-- a report of a shape has a line of the type for each of them
+abbrev pub Counts : Shape → List (List ℕ) → RecordType → Type 0
+Counts s dates t = length (datesFor t dates) ≡ countOf s t
 
 module _ (file : List ℕ) (ends : last file ≡ 10) (facility : List ℕ) where
-  -- the first of the lines from `at` on has the type and every value in its range; the others follow it
+  -- the first of the lines from `at` on has the type and, unless it is idle, every value in its range; the others follow it
   pub record LineRight (t : RecordType) (at : ℕ) : Type 0 where
     pub type : typeIs t (take (lengthOf t) (drop at file)) ≡ true
     pub next : lines (drop at file) ≡ take (lengthOf t) (drop at file) ∷ lines (drop (at + (lengthOf t + 1)) file)
-    pub values : valuesFault (valuesOf t) (take (lengthOf t) (drop at file)) ≡ 0
+    pub values : idle (take (lengthOf t) (drop at file)) ≡ false → valuesFault (valuesOf t) (take (lengthOf t) (drop at file)) ≡ 0
 
-  -- the first of the lines that are due stands at `at`, and the others follow it
-  first-due : (t : RecordType) (date : List ℕ) (ds : List Due) (at : ℕ) → Matches facility (dueOf t date ∷ ds) (lines (drop at file)) →
-      LineRight t at × Matches facility ds (lines (drop (at + (lengthOf t + 1)) file)) × (at + (lengthOf t + 1) ≤ length file)
+  -- a line without fault stands at `at`, and the others follow it
+  pub line-right : (t : RecordType) (x : List ℕ) (ls : List (List ℕ)) (at : ℕ) → lines (drop at file) ≡ x ∷ ls → shapeFault t x ≡ 0 →
+      (idle x ≡ false → valuesFault (valuesOf t) x ≡ 0) →
+      LineRight t at × (lines (drop (at + (lengthOf t + 1)) file) ≡ ls) × (at + (lengthOf t + 1) ≤ length file)
   unfolding lines
-  first-due t date ds at m = go (decLt at (length file))
+  line-right t x ls at e f v = go (decLt at (length file))
     where
-      go : Dec (at < length file) → LineRight t at × Matches facility ds (lines (drop (at + (lengthOf t + 1)) file)) × (at + (lengthOf t + 1) ≤ length file)
+      go : Dec (at < length file) → LineRight t at × (lines (drop (at + (lengthOf t + 1)) file) ≡ ls) × (at + (lengthOf t + 1) ≤ length file)
       go (no h) =
           let k : length file ≤ at = omega arith in
-          absurd (rw (drop-of-length-le file k) at m)
+          let n : [] ≡ x ∷ ls = rw (drop-of-length-le file k) at e in
+          absurd (let z : _≡_ {A = ℕ} 0 1 = cc in omega arith)
       go (yes h) =
-          let n = rw (lines-at file at h) at m in
-          let f = due-shape facility (dueOf t date) (firstLine (drop at file)) (n .0) in
-          let e = shape-length t (firstLine (drop at file)) f in
-          let l = line-at file at (lengthOf t) e in (
-            record {
-              type = rw l at (shape-type t (firstLine (drop at file)) f);
-              next = rw (e, l) at (lines-at file at h);
-              values = rw l at (due-values facility (dueOf t date) (firstLine (drop at file)) (n .0));
-            },
-            rw e at (n .1),
+          let m = lines-at file at h in
+          let a : firstLine (drop at file) ≡ x = cc in
+          let l : length (firstLine (drop at file)) ≡ lengthOf t = rw a (shape-length t x f) in
+          let b : lines (drop (at + (length (firstLine (drop at file)) + 1)) file) ≡ ls = cc in
+          let s : x ≡ take (lengthOf t) (drop at file) = sym a ∙ line-at file at (lengthOf t) l in (
+            record { type = rw s at (shape-type t x f); next = rw (l, line-at file at (lengthOf t) l) at m; values = rw s at v },
+            rw l at b,
             omega (arith, line-within file at ends h),
           )
 
+  -- one line of a type in front of others
+  pub run-more : (t : RecordType) (at m : ℕ) → LineRight t at → ((k : ℕ) → k < m → LineRight t (at + (lengthOf t + 1) + (lengthOf t + 1) * k)) →
+      (k : ℕ) → k < suc m → LineRight t (at + (lengthOf t + 1) * k)
+  run-more t at m p q zero h = let e : at + (lengthOf t + 1) * 0 ≡ at = omega arith in rw e p
+  run-more t at m p q (suc k) h =
+      let e : at + (lengthOf t + 1) + (lengthOf t + 1) * k ≡ at + (lengthOf t + 1) * suc k = omega arith in
+      rw e at (q k (le-of-suc-le-suc h))
+
+  -- the first of the lines that are due stands at `at`, and the others follow it
+  first-due : (t : RecordType) (date : List ℕ) (ds : List Due) (ls rest : List (List ℕ)) (at : ℕ) → lines (drop at file) ≡ ls →
+      Matches facility (dueOf t date ∷ ds) ls rest →
+      LineRight t at × Matches facility ds (lines (drop (at + (lengthOf t + 1)) file)) rest × (at + (lengthOf t + 1) ≤ length file)
+  first-due t date ds [] rest at e m = absurd m
+  first-due t date ds (l ∷ ls) rest at e m =
+      let f = due-shape facility (dueOf t date) l (m .0) in
+      let r = line-right t l ls at e f (λ i. due-values facility (dueOf t date) l (m .0)) in
+      (r .0, rw (r .1) (m .1), r .2)
+
   -- the lines of one type, one for each date
-  run-right : (t : RecordType) (dates : List (List ℕ)) (rest : List Due) (at : ℕ) → at ≤ length file →
-      Matches facility (map (dueOf t) dates ++ rest) (lines (drop at file)) →
+  run-right : (t : RecordType) (dates : List (List ℕ)) (due : List Due) (rest : List (List ℕ)) (at : ℕ) → at ≤ length file →
+      Matches facility (map (dueOf t) dates ++ due) (lines (drop at file)) rest →
       ((k : ℕ) → k < length dates → LineRight t (at + (lengthOf t + 1) * k))
-      × Matches facility rest (lines (drop (at + (lengthOf t + 1) * length dates) file))
+      × Matches facility due (lines (drop (at + (lengthOf t + 1) * length dates) file)) rest
       × (at + (lengthOf t + 1) * length dates ≤ length file)
-  run-right t [] rest at b m =
+  run-right t [] due rest at b m =
       let e : at + (lengthOf t + 1) * 0 ≡ at = omega arith in
       ((λ k h. absurd (not-suc-le-zero h)), rw e m, rw e b)
-  run-right t (date ∷ dates) rest at b m =
-      let f = first-due t date (map (dueOf t) dates ++ rest) at m in
-      let r = run-right t dates rest (at + (lengthOf t + 1)) (f .2) (f .1) in
+  run-right t (date ∷ dates) due rest at b m =
+      let f = first-due t date (map (dueOf t) dates ++ due) (lines (drop at file)) rest at refl m in
+      let r = run-right t dates due rest (at + (lengthOf t + 1)) (f .2) (f .1) in
       let e : at + (lengthOf t + 1) + (lengthOf t + 1) * length dates ≡ at + (lengthOf t + 1) * suc (length dates) = omega arith in
-      (each (f .0) (r .0), rw e at (r .1), rw e at (r .2))
-    where
-      each : LineRight t at → ((k : ℕ) → k < length dates → LineRight t (at + (lengthOf t + 1) + (lengthOf t + 1) * k)) →
-          (k : ℕ) → k < suc (length dates) → LineRight t (at + (lengthOf t + 1) * k)
-      each p q zero h = let e : at + (lengthOf t + 1) * 0 ≡ at = omega arith in rw e p
-      each p q (suc k) h =
-          let e : at + (lengthOf t + 1) + (lengthOf t + 1) * k ≡ at + (lengthOf t + 1) * suc k = omega arith in
-          rw e at (q k (le-of-suc-le-suc h))
+      (run-more t at (length dates) (f .0) (r .0), rw e at (r .1), rw e at (r .2))
 
-  -- the lines of types, one type after the other, to the end of the file
+  -- the lines of types, one type after the other
   unfoldable pub RunsRight : List RecordType → Shape → ℕ → Type 0
-  RunsRight [] s at = at ≡ length file
-  RunsRight (t ∷ ts) s at = ((k : ℕ) → k < countOf s t → LineRight t (at + (lengthOf t + 1) * k)) × RunsRight ts s (at + (lengthOf t + 1) * countOf s t)
+  RunsRight [] s at = Unit {0}
+  RunsRight (t ∷ ts) s at = ((k : ℕ) → k < countOf s t → LineRight t (at + (lengthOf t + 1) * k)) × RunsRight ts s (at + bytesOf s t)
 
-  pub runs-right : (ts : List RecordType) (dates : List (List ℕ)) (at : ℕ) → at ≤ length file →
-      Matches facility (runsOf ts dates) (lines (drop at file)) → RunsRight ts (shape (length dates)) at
-  unfolding RunsRight runsOf runOf lines
-  runs-right [] dates at b m = go (decLt at (length file))
-    where
-      go : Dec (at < length file) → at ≡ length file
-      go (yes h) = absurd (rw (lines-at file at h) at m)
-      go (no h) = omega arith
-  runs-right (t ∷ ts) dates at b m =
-      let r = run-right t (datesFor t dates) (runsOf ts dates) at b m in
-      let c = count-is t dates in
-      (rw c at (r .0), runs-right ts dates (at + (lengthOf t + 1) * countOf (shape (length dates)) t) (rw c at (r .2)) (rw c at (r .1)))
+  pub runs-right : (ts : List RecordType) (s : Shape) (dates rest : List (List ℕ)) (at : ℕ) → All (Counts s dates) ts → at ≤ length file →
+      Matches facility (runsOf ts dates) (lines (drop at file)) rest →
+      RunsRight ts s at × (lines (drop (at + totalOf (bytesOf s) ts) file) ≡ rest) × (at + totalOf (bytesOf s) ts ≤ length file)
+  unfolding RunsRight runsOf runOf totalOf
+  runs-right [] s dates rest at c b m = let z : at + 0 ≡ at = omega arith in (tt, rw z m, rw z b)
+  runs-right (t ∷ ts) s dates rest at c b m =
+      let r = run-right t (datesFor t dates) (runsOf ts dates) rest at b m in
+      let i = runs-right ts s dates rest (at + bytesOf s t) (c .1) (rw (c .0) at (r .2)) (rw (c .0) at (r .1)) in
+      let z : at + bytesOf s t + totalOf (bytesOf s) ts ≡ at + (bytesOf s t + totalOf (bytesOf s) ts) = omega arith in
+      ((rw (c .0) at (r .0), i .0), rw z at (i .1), rw z at (i .2))
 
-  -- they end where the file does
-  pub runs-size : (ts : List RecordType) (s : Shape) (at : ℕ) → RunsRight ts s at → at + totalOf (bytesOf s) ts ≡ length file
+  -- types behind types
+  pub runs-append : (ts us : List RecordType) (s : Shape) (at : ℕ) → RunsRight ts s at → RunsRight us s (at + totalOf (bytesOf s) ts) →
+      RunsRight (ts ++ us) s at
   unfolding RunsRight totalOf
-  runs-size [] s at r = omega arith
-  runs-size (t ∷ ts) s at r = omega (arith, runs-size ts s (at + bytesOf s t) (r .1))
+  runs-append [] us s at r q = let z : at + 0 ≡ at = omega arith in rw z at q
+  runs-append (t ∷ ts) us s at r q =
+      let z : at + (bytesOf s t + totalOf (bytesOf s) ts) ≡ at + bytesOf s t + totalOf (bytesOf s) ts = omega arith in
+      (r .0, runs-append ts us s (at + bytesOf s t) (r .1) (rw z at q))
 
   -- each line of a type that is one of them stands behind the types before it
   runs-line : (t : RecordType) (ts : List RecordType) (s : Shape) (at : ℕ) → placeOf (codeOf t) ts < length ts → RunsRight ts s at → (k : ℕ) → k < countOf s t →

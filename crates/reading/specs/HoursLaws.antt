@@ -1,93 +1,113 @@
--- The 200 lines of a file whose lines are right: each stands in its place, and there are no more than a quarter has hours.
-use Prim.Native.Nat.{ℕ, suc, _+_, _≤_, _<_}
-use mathlib.Core.Path.{_≡_, refl, sym, ap, subst₂, _∙_}
+-- The lines of a file whose lines are right, behind the facility line: each stands in its place, and there are no more hours than a
+-- quarter has.
+use Prim.Native.Nat.{ℕ, suc, _+_, _-_, _*_, _≤_, _<_}
+use mathlib.Core.Path.{_≡_, refl, _∙_}
 use mathlib.Core.List.{List, [], _∷_, _++_}
 use mathlib.Core.Bool.{Bool, true, false}
 use mathlib.Core.Logic.{⊎-elim}
 use native.Mathlib.Omega.{arith}
 use native.Mathlib.Decide.{decLt}
 use native.Mathlib.Nat.{eq-or-lt-of-le}
-use lib.ListN.{length, take, drop, drop-of-length-le, length-append}
+use lib.ListN.{length, drop, length-append}
 use Rattle.calendar.specs.Calendar.{mostHours, IsQuarter}
-use Rattle.layout.specs.Layout.{lengthOf, shape}
-use Rattle.layout.specs.declared.RecordType.the-variants.{So2Concentration}
-use Rattle.layout.specs.declared.Shape.{Shape}
-use Rattle.lines.specs.Lines.{firstLine, lines, last}
-use Rattle.lines.specs.LineLaws.{lines-at, line-at}
-use Rattle.lines.specs.LineFaults.{typeIs, dateOn, hourFault, hourLine}
-use Rattle.lines.specs.FaultLaws.{shape-type, shape-length, hour-shape, hour-values, hour-rises, hour-said}
-use Rattle.lines.specs.EndLaws.{line-within}
+use Rattle.exact.specs.Sums.{totalOf}
+use Rattle.layout.specs.Layout.{lengthOf, later, bytesOf, offsetOf, shape, shapeWith}
+use Rattle.layout.specs.declared.RecordType.the-variants.{So2Concentration, Operation}
+use Rattle.lines.specs.Lines.{lines, last}
+use Rattle.lines.specs.LineLaws.{lines-at}
+use Rattle.lines.specs.LineFaults.{typeIs, dateOn, operates, hourFault, hourLine}
+use Rattle.lines.specs.FaultLaws.{hour-shape, hour-values, hour-rises, hour-said}
 use Rattle.lines.specs.declared.Period.{Period}
 use Rattle.lines.specs.declared.HourLine.{HourLine}
 use Rattle.lines.specs.declared.HourLine.the-variants.{At, Faulty as FaultyHour}
-use Rattle.reading.specs.Reading.{stoppedAt, laterTypes, runsOf, reportOf, walkLater, walkHours}
-use Rattle.reading.specs.Places.{hourStart}
-use Rattle.reading.specs.CleanLaws.{never-clean, due-clean, LineRight, RunsRight, runs-right}
+use Rattle.reading.specs.Reading.{stoppedAt, firstTypes, lastTypes, runsOf, walkEnd, walkLast, walkListed, walkLater, walkHours}
+use Rattle.reading.specs.Places.{hourStart, linesAt, numbered, having}
+use Rattle.reading.specs.CleanLaws.{never-clean, due-clean, LineRight, line-right, RunsRight, runs-right, runs-append}
+use Rattle.reading.specs.ListedLaws.{listed-right}
 use Rattle.reading.specs.declared.Report.{Report}
 use Rattle.reading.specs.declared.Reading.{Reading}
 use Rattle.reading.specs.declared.Reading.the-variants.{Clean}
 
+pub end-clean : (report : Report) (line : ℕ) (ls : List (List ℕ)) (r : Report) → walkEnd report line ls ≡ Clean r → (ls ≡ []) × (r ≡ report)
+unfolding walkEnd
+end-clean report line [] r e = (refl, cc)
+end-clean report line (l ∷ ls) r e = never-clean 2 line r e
+
 module _ (file : List ℕ) (ends : last file ≡ 10) (facility : List ℕ) (period : Period) (quarter : IsQuarter (period .quarter)) where
+  file-over : (at : ℕ) → at ≤ length file → lines (drop at file) ≡ [] → at ≡ length file
+  file-over at b e = go (decLt at (length file))
+    where
+      go : Dec (at < length file) → at ≡ length file
+      go (yes h) = absurd (let f = lines-at file at h in let z : _≡_ {A = ℕ} 0 1 = cc in omega arith)
+      go (no h) = omega arith
+
+  -- behind n 200 lines
+  pub record LaterRight (n : ℕ) (r : Report) : Type 0 where
+    pub count : ℕ
+    pub report : r ≡ record { period = period; shape = shapeWith n count }
+    pub few : count ≤ mostHours
+    pub runs : RunsRight file ends facility (later So2Concentration) (shapeWith n count) (hourStart n)
+    pub size : hourStart n + totalOf (bytesOf (shapeWith n count)) (later So2Concentration) ≡ length file
+    pub operating : (number : ℕ) → length (having operates (numbered number (linesAt file Operation (offsetOf (shapeWith n count) Operation 0) count))) ≡ n
+
+  later-right : (line : ℕ) (dates ls : List (List ℕ)) (r : Report) → lines (drop (hourStart (length dates)) file) ≡ ls →
+      hourStart (length dates) ≤ length file →
+      walkLater facility period line dates ls ≡ Clean r → LaterRight (length dates) r
+  unfolding walkLater walkListed walkLast RunsRight totalOf
+  later-right line dates ls r e b w =
+      let n = length dates in
+      let d = due-clean facility line (runsOf firstTypes dates) ls (λ next rest. walkListed facility period next dates rest) r w in
+      let f = runs-right file ends facility firstTypes (shape n) dates (d .0) (hourStart n) (refl, (refl, (refl, tt))) b (rw e (d .1)) in
+      let here = line + length (runsOf firstTypes dates) in
+      let at = hourStart n + totalOf (bytesOf (shape n)) firstTypes in
+      let o = listed-right file ends facility period quarter (λ next rest. walkLast facility period (shapeWith n (next - here)) next dates rest) r
+      (d .0) here 0 at dates (f .1) (f .2) (omega arith) (d .2) in
+      let z : here + o .count - here ≡ o .count = omega arith in
+      let s = shapeWith n (o .count) in
+      let report : Report = record { period = period; shape = s } in
+      let next = at + (lengthOf Operation + 1) * o .count in
+      let c = due-clean facility (here + o .count) (runsOf lastTypes dates) (lines (drop next file)) (walkEnd report) r (rw z at (o .next)) in
+      let l = runs-right file ends facility lastTypes s dates (c .0) next (refl, (refl, (refl, (refl, tt)))) (o .room) (c .1) in
+      let q = end-clean report (here + o .count + length (runsOf lastTypes dates)) (c .0) r (c .2) in
+      let v = file-over (next + totalOf (bytesOf s) lastTypes) (l .2) (l .1 ∙ q .0) in
+      let y : at ≡ offsetOf s Operation 0 = omega arith in
+      record {
+        count = o .count;
+        report = q .1;
+        few = omega (arith, o .most);
+        runs = runs-append file ends facility firstTypes (Operation ∷ lastTypes) s (hourStart n) (f .0) (o .each, l .0);
+        size = omega (arith, v);
+        operating = rw (← y) (o .operating);
+      }
+
   -- after k 200 lines: those that follow, and the lines after them
   pub record HoursRight (k : ℕ) (r : Report) : Type 0 where
-    pub report : r .period ≡ period
-    pub more : k ≤ r .shape .hours
-    pub most : r .shape .hours ≤ mostHours
-    pub each : (j : ℕ) → k ≤ j → j < r .shape .hours → LineRight file ends facility So2Concentration (hourStart j)
-    pub later : RunsRight file ends facility laterTypes (r .shape) (hourStart (r .shape .hours))
+    pub hours : ℕ
+    pub more : k ≤ hours
+    pub most : hours ≤ mostHours
+    pub each : (j : ℕ) → k ≤ j → j < hours → LineRight file ends facility So2Concentration (hourStart j)
+    pub later : LaterRight hours r
 
   after-hours : (line k : ℕ) (dates ls : List (List ℕ)) (r : Report) → lines (drop (hourStart k) file) ≡ ls → hourStart k ≤ length file → length dates ≡ k →
       k ≤ mostHours →
       walkLater facility period line dates ls ≡ Clean r → HoursRight k r
-  unfolding walkLater
   after-hours line k dates ls r e b l m w =
-      let d = due-clean (reportOf period dates) facility line (runsOf laterTypes dates) ls r w in
-      let own : r .shape ≡ shape (length dates) = ap (λ (x : Report). x .shape) (sym (d .0)) in
-      let n : r .shape .hours ≡ k = ap (λ (x : Shape). x .hours) own ∙ l in
-      let q = runs-right file ends facility laterTypes dates (hourStart k) b (rw e (d .1)) in
       record {
-        report = ap (λ (x : Report). x .period) (sym (d .0));
+        hours = length dates;
         more = omega arith;
         most = omega arith;
         each = λ j p h. absurd (omega arith);
-        later = subst₂ (λ (s : Shape) (h : ℕ). RunsRight file ends facility laterTypes s (hourStart h)) (sym own) (sym n) q;
+        later = later-right line dates ls r (rw l e) (rw l b) w;
       }
-
-  nothing-left : (at : ℕ) (x : List ℕ) (ls : List (List ℕ)) → lines (drop at file) ≡ x ∷ ls → length file ≤ at → ⊥
-  unfolding lines
-  nothing-left at x ls e h =
-      let n : [] ≡ x ∷ ls = rw (drop-of-length-le file h) at e in
-      let z : _≡_ {A = ℕ} 0 1 = cc in
-      omega arith
 
   -- a 200 line without fault stands in its place, and the lines that follow it in theirs
   stands : (x : List ℕ) (ls : List (List ℕ)) (from k : ℕ) → lines (drop (hourStart k) file) ≡ x ∷ ls → hourFault facility period from x ≡ 0 →
       LineRight file ends facility So2Concentration (hourStart k) × (lines (drop (hourStart (suc k)) file) ≡ ls) × (hourStart (suc k) ≤ length file)
-  stands x ls from k e f = go (decLt (hourStart k) (length file))
-    where
-      at : ℕ
-      at = hourStart k
-
-      go : Dec (hourStart k < length file) →
-          LineRight file ends facility So2Concentration (hourStart k) × (lines (drop (hourStart (suc k)) file) ≡ ls) × (hourStart (suc k) ≤ length file)
-      go (no h) = absurd (nothing-left at x ls e (omega arith))
-      go (yes h) =
-          let m = lines-at file at h in
-          let a : firstLine (drop at file) ≡ x = cc in
-          let l : length (firstLine (drop at file)) ≡ lengthOf So2Concentration =
-          rw a (shape-length So2Concentration x (hour-shape facility period from x f)) in
-          let n : at + (length (firstLine (drop at file)) + 1) ≡ hourStart (suc k) = omega arith in
-          let b : lines (drop (at + (length (firstLine (drop at file)) + 1)) file) ≡ ls = cc in
-          let t = line-at file at (lengthOf So2Concentration) l in
-          let s : x ≡ take (lengthOf So2Concentration) (drop at file) = sym a ∙ t in (
-            record {
-              type = rw s at (shape-type So2Concentration x (hour-shape facility period from x f));
-              next = rw (l, t) at m;
-              values = rw s at (hour-values facility period from x f);
-            },
-            rw n at b,
-            omega (arith, line-within file at ends h),
-          )
+  stands x ls from k e f =
+      let l =
+      line-right file ends facility So2Concentration x ls (hourStart k) e (hour-shape facility period from x f) (λ i. hour-values facility period from x f) in
+      let n : hourStart k + (lengthOf So2Concentration + 1) ≡ hourStart (suc k) = omega arith in
+      (l .0, rw n at (l .1), rw n at (l .2))
 
   pub hours-right : (ls : List (List ℕ)) (line from k : ℕ) (dates : List (List ℕ)) (r : Report) → lines (drop (hourStart k) file) ≡ ls →
       hourStart k ≤ length file →
@@ -96,10 +116,11 @@ module _ (file : List ℕ) (ends : last file ≡ 10) (facility : List ℕ) (peri
   hours-right [] line from k dates r e b l p q w = after-hours line k dates [] r e b l (omega arith) w
   hours-right (x ∷ ls) line from k dates r e b l p q w =
       go (typeIs So2Concentration x) w (hourLine facility period from x) refl
-      (λ h a c d g. hours-right ls (line + 1) (h + 1) (suc k) (dates ++ (dateOn x ∷ [])) r a c (length-append dates (dateOn x ∷ []) ∙ omega arith) d g)
+      (λ h a c d g. hours-right ls (line + 1) (h + 1) (suc k) (dates ++ (dateOn So2Concentration x ∷ [])) r a c
+      (length-append dates (dateOn So2Concentration x ∷ []) ∙ omega arith) d g)
     where
       next : ℕ → Reading
-      next hour = walkHours facility period (line + 1) (hour + 1) (dates ++ (dateOn x ∷ [])) ls
+      next hour = walkHours facility period (line + 1) (hour + 1) (dates ++ (dateOn So2Concentration x ∷ [])) ls
 
       said : HourLine → Reading
       said h = elim h [ At hour ↦ next hour | FaultyHour number ↦ stoppedAt number line ]
@@ -117,8 +138,8 @@ module _ (file : List ℕ) (ends : last file ≡ 10) (facility : List ℕ) (peri
           let n = hour-rises facility period from x (f .0) quarter in
           let h = ih hour (s .1) (s .2) (omega (arith, f .1)) (omega (arith, f .1)) (rw g at v) in
           record {
-            report = h .report;
-            more = omega arith;
+            hours = h .hours;
+            more = omega (arith, h .more);
             most = h .most;
             each = λ j a c. ⊎-elim (λ z. rw (← z) (s .0)) (λ z. h .each j z c) (eq-or-lt-of-le a);
             later = h .later;

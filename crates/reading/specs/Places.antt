@@ -1,18 +1,21 @@
 -- Where the reading of a file finds what it has read before: the facility line, and the dates of the 200 lines so far. What the
 -- functions that read lines may rely on stands here too.
-use Prim.Native.Nat.{ℕ, zero, suc, _+_, _≤_}
+use Prim.Native.Nat.{ℕ, zero, suc, _+_, _-_, _≤_, _<_}
 use mathlib.Core.Path.{_≡_}
+use mathlib.Core.Bool.{Bool, true, false, cond}
 use mathlib.Core.List.{List, [], _∷_, _++_}
 use lib.ListN.{length, take, drop}
 use Rattle.calendar.specs.Calendar.{mostHours}
 use Rattle.columns.specs.Columns.{columns}
 use Rattle.layout.specs.Layout.{recordOf, lengthOf, dateColumn, dateWidth, countOf, lineOf, offsetOf, reportLength, Held, shape}
 use Rattle.layout.specs.declared.RecordType.{RecordType}
-use Rattle.layout.specs.declared.RecordType.the-variants.{Facility, So2Concentration}
+use Rattle.layout.specs.declared.RecordType.the-variants.{Facility, So2Concentration, Operation}
 use Rattle.layout.specs.declared.Run.{Run}
-use Rattle.layout.specs.declared.Run.the-variants.{Once, Hourly}
+use Rattle.layout.specs.declared.Run.the-variants.{Once, Hourly, Listed}
 use Rattle.layout.specs.declared.Shape.{Shape}
-use Rattle.reading.specs.Recorded.{Line, recordsOf}
+use Rattle.lines.specs.Lines.{lines}
+use Rattle.lines.specs.LineFaults.{typeIs, operates}
+use Rattle.reading.specs.Recorded.{Line, linesWith, recordsOf, recordAt}
 
 abbrev pub facilityOf : List ℕ → List ℕ
 facilityOf file = take (lengthOf Facility) file
@@ -39,6 +42,7 @@ pub record Counted (file : List ℕ) (n : ℕ) : Type 0 where
 abbrev pub dateFor : Run → List ℕ → ℕ → List ℕ
 dateFor Once file k = []
 dateFor Hourly file k = dateIn file k
+dateFor Listed file k = dateIn file k
 
 unfoldable pub dateDue : List ℕ → RecordType → ℕ → List ℕ
 dateDue file t k = dateFor (recordOf t .run) file k
@@ -53,8 +57,35 @@ unfoldable pub numbered : ℕ → List (List ℕ) → List Line
 numbered number [] = []
 numbered number (l ∷ ls) = record { number = number; text = l } ∷ numbered (suc number) ls
 
--- the records of a file of a shape stand where the layout has them
+-- of numbered lines, those that pass a test
+unfoldable pub having : (List ℕ → Bool) → List Line → List Line
+having test [] = []
+having test (l ∷ ls) = elim (test (l .text)) [ true ↦ l ∷ having test ls | false ↦ having test ls ]
+
+-- the line at a place of a type's run, from 0
+abbrev pub lineAt : List ℕ → Shape → RecordType → ℕ → Line
+lineAt file s t p = record { number = lineOf s t p; text = take (lengthOf t) (drop (offsetOf s t p) file) }
+
+-- the lines of a type stand where the layout has them; of the 300 lines as many operate as there are hours
 pub record Standing (file : List ℕ) (s : Shape) : Type 0 where
   pub size : length file ≡ reportLength s
   pub held : Held s
-  pub records : (t : RecordType) → recordsOf file t ≡ numbered (lineOf s t 0) (linesAt file t (offsetOf s t 0) (countOf s t))
+  pub lines : (t : RecordType) → linesWith (typeIs t) 1 (lines file) ≡ numbered (lineOf s t 0) (linesAt file t (offsetOf s t 0) (countOf s t))
+  pub operating : length (recordsOf file Operation) ≡ s .hours
+
+-- the record of rank k stands at place p
+pub record Stands (file : List ℕ) (s : Shape) (t : RecordType) (k p : ℕ) : Type 0 where
+  pub inside : p < countOf s t
+  pub there : recordAt file t k ≡ lineAt file s t p
+
+-- the 300 lines from a place on that operate
+unfoldable pub operatingFrom : List ℕ → Shape → ℕ → List Line
+operatingFrom file s p = having operates (numbered (lineOf s Operation p) (linesAt file Operation (offsetOf s Operation p) (s .operations - p)))
+
+-- the first place from p on, of so many, whose line operates; the place behind them where none does
+unfoldable pub placeFrom : List ℕ → Shape → ℕ → ℕ → ℕ
+placeFrom file s p zero = p
+placeFrom file s p (suc left) = cond (operates (lineAt file s Operation p .text)) p (placeFrom file s (suc p) left)
+
+abbrev pub operatingPlace : List ℕ → Shape → ℕ → ℕ
+operatingPlace file s p = placeFrom file s p (s .operations - p)

@@ -1,19 +1,21 @@
 -- What the line checks answer to a file: the first fault with its line, or the report's year, quarter and counts.
-use Prim.Native.Nat.{ℕ, zero, suc, _+_}
+use Prim.Native.Nat.{ℕ, zero, suc, _+_, _-_}
 use mathlib.Core.List.{List, [], _∷_, _++_, map}
 use mathlib.Core.Bool.{true, false}
 use lib.Dec.{eqb}
-use lib.ListN.{length}
-use Rattle.layout.specs.Layout.{recordOf, later, shape}
+use lib.ListN.{length, drop, getD}
+use Rattle.layout.specs.Layout.{recordOf, typesBetween, later, shapeWith}
 use Rattle.layout.specs.declared.RecordType.{RecordType}
-use Rattle.layout.specs.declared.RecordType.the-variants.{So2Concentration}
+use Rattle.layout.specs.declared.RecordType.the-variants.{So2Concentration, Operation}
 use Rattle.layout.specs.declared.Run.{Run}
-use Rattle.layout.specs.declared.Run.the-variants.{Once, Hourly}
+use Rattle.layout.specs.declared.Run.the-variants.{Once, Hourly, Listed}
+use Rattle.layout.specs.declared.Shape.{Shape}
 use Rattle.lines.specs.Lines.{lines, last}
-use Rattle.lines.specs.LineFaults.{typeIs, facilityLine, dateOn, hourLine, Due, dueOf, dueFault}
+use Rattle.lines.specs.LineFaults.{typeIs, facilityLine, dateOn, hourLine, Due, dueOf, dueFault, operationLine}
 use Rattle.lines.specs.declared.Period.{Period}
 use Rattle.lines.specs.declared.FacilityLine.the-variants.{Of, Faulty as FaultyFacility}
 use Rattle.lines.specs.declared.HourLine.the-variants.{At, Faulty as FaultyHour}
+use Rattle.lines.specs.declared.operation.OperationLine.the-variants.{Operating, Idle, Faulty as FaultyOperation}
 use Rattle.reading.specs.declared.Report.{Report}
 use Rattle.reading.specs.declared.Reading.{Reading}
 use Rattle.reading.specs.declared.Reading.the-variants.{Clean, Refused}
@@ -21,15 +23,19 @@ use Rattle.reading.specs.declared.Reading.the-variants.{Clean, Refused}
 abbrev pub stoppedAt : ℕ → ℕ → Reading
 stoppedAt number line = Refused (record { number = number; line = line })
 
--- the lines that follow 200 lines of these dates and hours
+-- the types of the lines that follow the 200 lines: those in front of the 300 lines, and those behind them
 
-abbrev pub laterTypes : List RecordType
-laterTypes = later So2Concentration
+abbrev pub firstTypes : List RecordType
+firstTypes = typesBetween So2Concentration Operation
+
+abbrev pub lastTypes : List RecordType
+lastTypes = later Operation
 
 -- one line for each date, or one line that has none
 abbrev pub datesOf : Run → List (List ℕ) → List (List ℕ)
 datesOf Once dates = [] ∷ []
 datesOf Hourly dates = dates
+datesOf Listed dates = dates
 
 unfoldable pub runOf : RecordType → List (List ℕ) → List Due
 runOf t dates = map (dueOf t) (datesOf (recordOf t .run) dates)
@@ -38,20 +44,54 @@ unfoldable pub runsOf : List RecordType → List (List ℕ) → List Due
 runsOf [] dates = []
 runsOf (t ∷ ts) dates = runOf t dates ++ runsOf ts dates
 
-abbrev pub reportOf : Period → List (List ℕ) → Report
-reportOf period dates = record { period = period; shape = shape (length dates) }
+-- what follows some lines: the number of the next, and the lines from it on
+abbrev pub After : Type 0
+After = ℕ → List (List ℕ) → Reading
 
 -- the lines from `line` on against those that are due
-unfoldable pub walkDue : Report → List ℕ → ℕ → List Due → List (List ℕ) → Reading
-walkDue report facility line [] [] = Clean report
-walkDue report facility line [] (l ∷ ls) = stoppedAt 2 line
-walkDue report facility line (d ∷ ds) [] = stoppedAt 10 line
-walkDue report facility line (d ∷ ds) (l ∷ ls) =
-    elim (dueFault facility d l) [ zero ↦ walkDue report facility (line + 1) ds ls | suc c ↦ stoppedAt (suc c) line ]
+unfoldable pub walkDue : List ℕ → ℕ → List Due → List (List ℕ) → After → Reading
+walkDue facility line [] ls after = after line ls
+walkDue facility line (d ∷ ds) [] after = stoppedAt 10 line
+walkDue facility line (d ∷ ds) (l ∷ ls) after =
+    elim (dueFault facility d l) [ zero ↦ walkDue facility (line + 1) ds ls after | suc c ↦ stoppedAt (suc c) line ]
+
+-- what follows the last 300 line, of operating hours that are due with these dates: none may be left
+unfoldable pub endOperations : ℕ → ℕ → List (List ℕ) → List (List ℕ) → After → Reading
+endOperations number line [] ls after = after line ls
+endOperations number line (d ∷ ds) ls after = stoppedAt number line
+
+-- the 300 lines: operating hours are due with these dates, and idle ones may stand among them; the next hour is at least `from`
+unfoldable pub walkOperations : List ℕ → Period → ℕ → ℕ → List (List ℕ) → List (List ℕ) → After → Reading
+walkOperations facility period line from dates [] after = endOperations 10 line dates [] after
+walkOperations facility period line from dates (l ∷ ls) after =
+    elim (typeIs Operation l) [
+      | false ↦ endOperations 2 line dates (l ∷ ls) after
+      | true ↦
+          elim (operationLine facility period from (getD dates 0 []) l) [
+            | Operating hour ↦ walkOperations facility period (line + 1) (hour + 1) (drop 1 dates) ls after
+            | Idle hour ↦ walkOperations facility period (line + 1) (hour + 1) dates ls after
+            | FaultyOperation number ↦ stoppedAt number line
+          ]
+    ]
+
+-- no line may be left
+unfoldable pub walkEnd : Report → After
+walkEnd report line [] = Clean report
+walkEnd report line (l ∷ ls) = stoppedAt 2 line
+
+-- after the last 300 line of a report of this shape
+unfoldable pub walkLast : List ℕ → Period → Shape → ℕ → List (List ℕ) → List (List ℕ) → Reading
+walkLast facility period s line dates ls = walkDue facility line (runsOf lastTypes dates) ls (walkEnd (record { period = period; shape = s }))
+
+-- after the last 220 line
+unfoldable pub walkListed : List ℕ → Period → ℕ → List (List ℕ) → List (List ℕ) → Reading
+walkListed facility period line dates ls =
+    walkOperations facility period line 0 dates ls (λ next rest. walkLast facility period (shapeWith (length dates) (next - line)) next dates rest)
 
 -- after the last 200 line
 unfoldable pub walkLater : List ℕ → Period → ℕ → List (List ℕ) → List (List ℕ) → Reading
-walkLater facility period line dates ls = walkDue (reportOf period dates) facility line (runsOf laterTypes dates) ls
+walkLater facility period line dates ls =
+    walkDue facility line (runsOf firstTypes dates) ls (λ next rest. walkListed facility period next dates rest)
 
 -- the lines from `line` on, after 200 lines of these dates; the next hour of the quarter is at least `from`
 unfoldable pub walkHours : List ℕ → Period → ℕ → ℕ → List (List ℕ) → List (List ℕ) → Reading
@@ -61,7 +101,7 @@ walkHours facility period line from dates (l ∷ ls) =
       | false ↦ walkLater facility period line dates (l ∷ ls)
       | true ↦
           elim (hourLine facility period from l) [
-            | At hour ↦ walkHours facility period (line + 1) (hour + 1) (dates ++ (dateOn l ∷ [])) ls
+            | At hour ↦ walkHours facility period (line + 1) (hour + 1) (dates ++ (dateOn So2Concentration l ∷ [])) ls
             | FaultyHour number ↦ stoppedAt number line
           ]
     ]

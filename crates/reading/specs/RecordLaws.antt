@@ -1,27 +1,37 @@
--- Of a file whose lines are right, the records of each type are those that stand where the layout has them.
+-- Of a file whose lines are right, the lines of each type stand where the layout has them, and the records are those lines, but for
+-- idle hours.
 use Prim.Native.Nat.{ℕ, zero, suc, _+_, _*_, _≤_, _<_}
-use mathlib.Core.Path.{_≡_, refl, ap, _∙_}
-use mathlib.Core.List.{List, [], _∷_, _++_}
+use mathlib.Core.Path.{_≡_, refl, sym, ap, subst, _∙_}
+use mathlib.Core.Logic.{_⊎_, inl, inr, ⊎-elim}
+use mathlib.Core.Bool.{Bool, true, false, not, _&&_}
+use mathlib.Core.List.{List, [], _∷_, _++_, append-assoc, append-nil}
 use native.Mathlib.Omega.{arith}
 use native.Mathlib.Nat.{le-of-suc-le-suc, not-suc-le-zero}
+use lib.Dec.{eqb}
 use lib.ListN.{length, take, drop, getD, drop-of-length-le}
+use borrow.Author.Tests.{eqb-true, eqb-false}
 use Rattle.calendar.specs.Calendar.{mostHours}
 use Rattle.columns.specs.Columns.{columns}
-use Rattle.columns.specs.Number.{fieldOf, numberOf}
+use Rattle.columns.specs.Number.{fieldOf}
+use Rattle.exact.specs.Logic.{All}
 use Rattle.exact.specs.Sums.{totalOf}
-use Rattle.layout.specs.Layout.{lengthOf, valueCount, valueAt, order, earlier, countOf, bytesOf, lineOf, offsetOf}
+use Rattle.layout.specs.Layout.{codeOf, lengthOf, valueCount, valueAt, order, earlier, countOf, bytesOf, lineOf, offsetOf, reportLength, shape}
 use Rattle.layout.specs.LayoutLaws.{count-most}
 use Rattle.layout.specs.PlaceLaws.{front-bytes, front-lines, line-inside}
 use Rattle.layout.specs.ValueLaws.{value-inside}
 use Rattle.layout.specs.declared.RecordType.{RecordType}
-use Rattle.layout.specs.declared.RecordType.the-variants.{So2Concentration}
+use Rattle.layout.specs.RunLaws.{other-count}
+use Rattle.layout.specs.TypeLaws.{code-tells}
+use Rattle.layout.specs.declared.RecordType.the-variants.{So2Concentration, Operation}
 use Rattle.layout.specs.declared.Shape.{Shape}
 use Rattle.lines.specs.Lines.{lines, last}
-use Rattle.lines.specs.LineFaults.{typeIs}
+use Rattle.lines.specs.LineFaults.{typeIs, fieldIn, operates}
 use Rattle.lines.specs.FaultLaws.{columns-of-line}
-use Rattle.reading.specs.Recorded.{linesWith, recordsOf, recordAt, valueOn, hourCount}
-use Rattle.reading.specs.Places.{linesAt, numbered, Standing}
+use Rattle.reading.specs.Recorded.{Line, linesWith, idle, recordOfType, recordsOf, hourCount}
+use Rattle.reading.specs.RecordedLaws.{typed-idle}
+use Rattle.reading.specs.Places.{linesAt, numbered, having, lineAt, Standing, Stands}
 use Rattle.reading.specs.RunLaws.{LineRun, AllOf, Typed, joined, runsFrom, order-chosen, numbered-length, numbered-at}
+use Rattle.reading.specs.RunLaws.{with-both, same-tests, having-at}
 use Rattle.reading.specs.CleanLaws.{LineRight, RunsRight}
 
 -- so many lines of a type
@@ -63,57 +73,143 @@ module _ (file : List ℕ) (ends : last file ≡ 10) (facility : List ℕ) where
     abbrev runs : List RecordType → ℕ → List LineRun
     runs = runsFrom linesOfType (countOf s) (bytesOf s) all-counted
 
-    runs-lines : (ts : List RecordType) (at : ℕ) → RunsRight file ends facility ts s at → (lines (drop at file) ≡ joined (runs ts at)) × Typed (runs ts at)
-    unfolding RunsRight lines
-    runs-lines [] at r = let h : length file ≤ at = omega arith in (rw (drop-of-length-le file h), tt)
+    runs-lines : (ts : List RecordType) (at : ℕ) → RunsRight file ends facility ts s at →
+        (lines (drop at file) ≡ joined (runs ts at) ++ lines (drop (at + totalOf (bytesOf s) ts) file)) × Typed (runs ts at)
+    unfolding RunsRight totalOf
+    runs-lines [] at r = let z : at + 0 ≡ at = omega arith in (rw z, tt)
     runs-lines (t ∷ ts) at r =
         let f = run-lines t (countOf s t) at (r .0) in
         let i = runs-lines ts (at + bytesOf s t) (r .1) in
-        (f .0 ∙ ap (λ (ls : List (List ℕ)). linesAt file t at (countOf s t) ++ ls) (i .0), (f .1, i .1))
+        let z : at + bytesOf s t + totalOf (bytesOf s) ts ≡ at + (bytesOf s t + totalOf (bytesOf s) ts) = omega arith in (
+          f .0
+              ∙ ap (λ (ls : List (List ℕ)). linesOfType at t ++ ls) (rw z at (i .0))
+              ∙ sym (append-assoc (linesOfType at t) (joined (runs ts (at + bytesOf s t))) (lines (drop (at + (bytesOf s t + totalOf (bytesOf s) ts)) file))),
+          (f .1, i .1),
+        )
 
-    pub records-placed : RunsRight file ends facility order s 0 → (t : RecordType) →
-        recordsOf file t ≡ numbered (lineOf s t 0) (linesAt file t (offsetOf s t 0) (countOf s t))
-    unfolding recordsOf
-    records-placed r t =
+    pub lines-placed : RunsRight file ends facility order s 0 → length file ≡ reportLength s → (t : RecordType) →
+        linesWith (typeIs t) 1 (lines file) ≡ numbered (lineOf s t 0) (linesAt file t (offsetOf s t 0) (countOf s t))
+    unfolding lines reportLength
+    lines-placed r e t =
         let l = runs-lines order 0 r in
+        let b : length file ≤ 0 + totalOf (bytesOf s) order = omega arith in
         let n : 1 + totalOf (countOf s) (earlier t) ≡ lineOf s t 0 = omega (arith, front-lines s t) in
         let o : 0 + totalOf (bytesOf s) (earlier t) ≡ offsetOf s t 0 = omega (arith, front-bytes s t) in
-        ap (linesWith (typeIs t) 1) (l .0)
+        ap (linesWith (typeIs t) 1) (rw (drop-of-length-le file b, append-nil (joined (runs order 0))) at (l .0))
         ∙ order-chosen linesOfType (countOf s) (bytesOf s) all-counted t 1 0 (l .1)
         ∙ rw (n, o)
 
--- every record lies within the file
-pub room-for : (file : List ℕ) (s : Shape) → Standing file s → (t : RecordType) (k : ℕ) → k < countOf s t →
-    (offsetOf s t k + lengthOf t ≤ length file) × (k ≤ mostHours)
-room-for file s d t k h = (omega (arith, line-inside s t k h, d .size), omega (arith, count-most s (d .held) t))
+-- which lines of a type are records: all, but for idle hours
 
-module _ (file : List ℕ) (s : Shape) (d : Standing file s) (t : RecordType) (k : ℕ) (h : k < countOf s t) where
-  pub record-at : recordAt file t k ≡ record { number = lineOf s t k; text = take (lengthOf t) (drop (offsetOf s t k) file) }
-  record-at =
-      let e : offsetOf s t 0 + (lengthOf t + 1) * k ≡ offsetOf s t k = omega arith in
-      let z : lineOf s t 0 + k ≡ lineOf s t k = omega arith in
+-- a type is another, or that of the 300 lines
+pub either-type : (t : RecordType) → (t ≡ Operation → ⊥) ⊎ (t ≡ Operation)
+either-type t = go (eqb (codeOf t) (codeOf Operation)) refl
+  where
+    go : (b : Bool) → eqb (codeOf t) (codeOf Operation) ≡ b → (t ≡ Operation → ⊥) ⊎ (t ≡ Operation)
+    go true e = inr (code-tells t Operation (eqb-true _ _ e))
+    go false e = inl (λ same. eqb-false _ _ e (ap codeOf same))
+
+other-record : (t : RecordType) → (t ≡ Operation → ⊥) → (l : List ℕ) → recordOfType t l ≡ typeIs t l
+other-record t other l = go (typeIs t l) refl
+  where
+    go : (b : Bool) → typeIs t l ≡ b → b && not (idle l) ≡ b
+    go true e = rw (typed-idle t other l e)
+    go false e = refl
+
+operating-record : (l : List ℕ) → recordOfType Operation l ≡ typeIs Operation l && operates l
+unfolding idle
+operating-record l = go (typeIs Operation l) (operates l)
+  where
+    go : (a b : Bool) → a && not (a && not b) ≡ a && b
+    go true true = refl
+    go true false = refl
+    go false true = refl
+    go false false = refl
+
+everywhere : (P : List ℕ → Type 0) → ((l : List ℕ) → P l) → (ls : List (List ℕ)) → All P ls
+everywhere P p [] = tt
+everywhere P p (l ∷ ls) = (p l, everywhere P p ls)
+
+pub other-records : (file : List ℕ) (t : RecordType) → (t ≡ Operation → ⊥) → recordsOf file t ≡ linesWith (typeIs t) 1 (lines file)
+unfolding recordsOf
+other-records file t o =
+    same-tests (recordOfType t) (typeIs t) (lines file) 1 (everywhere (λ l. recordOfType t l ≡ typeIs t l) (other-record t o) (lines file))
+
+pub operating-lines : (file : List ℕ) → recordsOf file Operation ≡ linesWith (λ l. typeIs Operation l && operates l) 1 (lines file)
+unfolding recordsOf
+operating-lines file =
+    same-tests (recordOfType Operation) (λ l. typeIs Operation l && operates l) (lines file) 1
+    (everywhere (λ l. recordOfType Operation l ≡ typeIs Operation l && operates l) operating-record (lines file))
+
+pub operating-records : (file : List ℕ) → recordsOf file Operation ≡ having operates (linesWith (typeIs Operation) 1 (lines file))
+operating-records file = operating-lines file ∙ with-both (typeIs Operation) operates (lines file) 1
+
+-- every line lies within the file
+pub room-for : (file : List ℕ) (s : Shape) → Standing file s → (t : RecordType) (p : ℕ) → p < countOf s t →
+    (offsetOf s t p + lengthOf t ≤ length file) × (p ≤ mostHours)
+room-for file s d t p h = (omega (arith, line-inside s t p h, d .size), omega (arith, count-most s (d .held) t))
+
+-- the i-th value on a line, counted from the start of the file
+pub value-at : (file : List ℕ) (s : Shape) (t : RecordType) (p i : ℕ) → i < valueCount t →
+    fieldIn (valueAt t i) (lineAt file s t p .text) ≡ fieldOf (valueAt t i .decimals) (columns (offsetOf s t p + valueAt t i .start) (valueAt t i .width) file)
+value-at file s t p i b =
+    let v = value-inside t i b in
+    rw (columns-of-line file (offsetOf s t p) (lengthOf t) (valueAt t i .start) (valueAt t i .width) (v .first) (v .last))
+
+abbrev none : Line
+none = record { number = 0; text = [] }
+
+module _ (file : List ℕ) (s : Shape) (d : Standing file s) where
+  line-number : (t : RecordType) (p : ℕ) → p < countOf s t →
+      record { number = lineOf s t 0 + p; text = getD (linesAt file t (offsetOf s t 0) (countOf s t)) p [] } ≡ lineAt file s t p
+  line-number t p h =
+      let e : offsetOf s t 0 + (lengthOf t + 1) * p ≡ offsetOf s t p = omega arith in
+      let z : lineOf s t 0 + p ≡ lineOf s t p = omega arith in
+      rw (line-in file t p (countOf s t) (offsetOf s t 0) h, e, z)
+
+  -- a record that is no 300 line stands at its rank
+  pub other-stands : (t : RecordType) → (t ≡ Operation → ⊥) → (k : ℕ) → k < countOf s t → Stands file s t k k
+  other-stands t o k h =
       let c : k < length (linesAt file t (offsetOf s t 0) (countOf s t)) = rw (lines-count file t (countOf s t) (offsetOf s t 0)) h in
-      rw (
-        d .records t,
-        numbered-at (linesAt file t (offsetOf s t 0) (countOf s t)) (record { number = 0; text = [] }) k (lineOf s t 0) c,
-        line-in file t k
-            (countOf s t) (offsetOf s t 0) h,
-        e,
-        z,
-      )
+      record {
+        inside = h;
+        there =
+            rw (other-records file t o, d .lines t, numbered-at (linesAt file t (offsetOf s t 0) (countOf s t)) none k (lineOf s t 0) c)
+            (line-number t k h);
+      }
 
-  -- a value, counted from the start of the file
-  pub value-at : (i : ℕ) → i < valueCount t →
-      valueOn file t k i ≡ numberOf (fieldOf (valueAt t i .decimals) (columns (offsetOf s t k + valueAt t i .start) (valueAt t i .width) file))
-  unfolding valueOn
-  value-at i b =
-      let v = value-inside t i b in
-      rw (record-at, columns-of-line file (offsetOf s t k) (lengthOf t) (valueAt t i .start) (valueAt t i .width) (v .first) (v .last))
+  pub operating-there : recordsOf file Operation ≡ having operates
+      (numbered (lineOf s Operation 0) (linesAt file Operation (offsetOf s Operation 0) (s .operations)))
+  operating-there = operating-records file ∙ ap (having operates) (d .lines Operation)
 
--- as many of a type as the shape says
-pub records-standing : (file : List ℕ) (s : Shape) → Standing file s → (t : RecordType) → length (recordsOf file t) ≡ countOf s t
-records-standing file s d t =
-    rw (d .records t, numbered-length (linesAt file t (offsetOf s t 0) (countOf s t)) (lineOf s t 0)) (lines-count file t (countOf s t) (offsetOf s t 0))
+  -- that of an operating hour at some place of the 300 lines
+  pub operation-stands : (k : ℕ) → k < s .hours → (p : ℕ) × Stands file s Operation k p
+  operation-stands k h =
+      let ls = linesAt file Operation (offsetOf s Operation 0) (s .operations) in
+      let b : k < length (having operates (numbered (lineOf s Operation 0) ls)) = rw (← operating-there) (omega (arith, d .operating)) in
+      let p = having-at operates ls none k (lineOf s Operation 0) b in
+      let i : p .place < s .operations = rw (lines-count file Operation (s .operations) (offsetOf s Operation 0)) at (p .inside) in
+      (p .place, record { inside = i; there = ap (λ (ls : List Line). getD ls k none) operating-there ∙ p .own ∙ line-number Operation (p .place) i })
 
-pub hours-standing : (file : List ℕ) (s : Shape) → Standing file s → hourCount file ≡ s .hours
-hours-standing file s d = records-standing file s d So2Concentration
+  -- every record stands somewhere
+  pub stands : (t : RecordType) (k : ℕ) → k < countOf (shape (s .hours)) t → (p : ℕ) × Stands file s t k p
+  stands t k h =
+      ⊎-elim (λ o. (k, other-stands t o k (rw (other-count s t o) h))) (λ e. subst At (sym e) (operation-stands k (subst Below e h))) (either-type t)
+    where
+      At : RecordType → Type 0
+      At t = (p : ℕ) × Stands file s t k p
+
+      Below : RecordType → Type 0
+      Below t = k < countOf (shape (s .hours)) t
+
+  -- as many of a type as there are hours, or one
+  pub records-standing : (t : RecordType) → length (recordsOf file t) ≡ countOf (shape (s .hours)) t
+  records-standing t = ⊎-elim others (λ e. rw e (d .operating)) (either-type t)
+    where
+      others : (t ≡ Operation → ⊥) → length (recordsOf file t) ≡ countOf (shape (s .hours)) t
+      others o =
+          rw (other-records file t o, d .lines t, numbered-length (linesAt file t (offsetOf s t 0) (countOf s t)) (lineOf s t 0))
+          (lines-count file t (countOf s t) (offsetOf s t 0) ∙ other-count s t o)
+
+  pub hours-standing : hourCount file ≡ s .hours
+  hours-standing = records-standing So2Concentration

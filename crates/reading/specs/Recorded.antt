@@ -2,7 +2,7 @@
 use Prim.Native.Nat.{ℕ, suc}
 use mathlib.Core.Path.{_≡_}
 use mathlib.Core.List.{List, [], _∷_}
-use mathlib.Core.Bool.{Bool, true, false}
+use mathlib.Core.Bool.{Bool, true, false, not, _&&_}
 use lib.ListN.{length, getD}
 use Rattle.exact.specs.Logic.{ranked}
 use Rattle.columns.specs.Number.{numberOf}
@@ -13,7 +13,7 @@ use Rattle.layout.specs.declared.RecordType.the-variants.{QuarterTotals, So2Mas
 use Rattle.formulas.specs.declared.hour.Hour.{Hour}
 use Rattle.totals.specs.declared.Quarter.{Quarter}
 use Rattle.lines.specs.Lines.{lines, HasLine, textOf}
-use Rattle.lines.specs.LineFaults.{typeIs, fieldIn}
+use Rattle.lines.specs.LineFaults.{typeIs, fieldIn, operates}
 
 -- a line of a file: its place among the lines, from 1, and its columns
 pub record Line : Type 0 where
@@ -26,14 +26,21 @@ linesWith test number [] = []
 linesWith test number (l ∷ ls) =
     elim (test l) [ true ↦ record { number = number; text = l } ∷ linesWith test (suc number) ls | false ↦ linesWith test (suc number) ls ]
 
--- the records of a type
+-- an idle hour: a 300 line without a positive time, which is 0.00 where the line is right
+unfoldable pub idle : List ℕ → Bool
+idle line = typeIs Operation line && not (operates line)
+
+-- the records of a type: its lines, but for idle ones
+abbrev pub recordOfType : RecordType → List ℕ → Bool
+recordOfType t line = typeIs t line && not (idle line)
+
 unfoldable pub recordsOf : List ℕ → RecordType → List Line
-recordsOf file t = linesWith (typeIs t) 1 (lines file)
+recordsOf file t = linesWith (recordOfType t) 1 (lines file)
 
 -- the line of this number is one of them
 pub record HasRecord (file : List ℕ) (t : RecordType) (line : ℕ) : Type 0 where
   pub stands : HasLine file line
-  pub type : typeIs t (textOf file line) ≡ true
+  pub type : recordOfType t (textOf file line) ≡ true
 
 -- the record of rank k, from 0
 abbrev pub recordAt : List ℕ → RecordType → ℕ → Line

@@ -1,52 +1,51 @@
--- Every record of a type, of any file, is a line of the file with that line's number.
-use Prim.Native.Nat.{ℕ, zero, suc, _+_, _-_, _≤_, _<_}
-use mathlib.Core.Path.{_≡_, refl}
-use mathlib.Core.List.{List, [], _∷_}
-use mathlib.Core.Bool.{Bool, true, false}
+-- Every record of a type, of any file, is a line of the file with that line's number, and no idle one.
+use Prim.Native.Nat.{ℕ, _+_, _-_, _<_}
+use mathlib.Core.Path.{_≡_, sym, ap, _∙_}
+use mathlib.Core.List.{List, []}
+use mathlib.Core.Bool.{true, false, not}
 use native.Mathlib.Omega.{arith}
-use native.Mathlib.Nat.{le-of-suc-le-suc, not-suc-le-zero}
 use lib.ListN.{length, getD}
+use borrow.Author.Tests.{ne-eqb, not-true}
+use Rattle.exact.specs.Logic.{both}
+use Rattle.layout.specs.TypeLaws.{code-tells}
 use Rattle.layout.specs.declared.RecordType.{RecordType}
-use Rattle.lines.specs.Lines.{lines}
-use Rattle.lines.specs.LineFaults.{typeIs}
-use Rattle.reading.specs.Recorded.{Line, linesWith, recordsOf, HasRecord, recordAt}
+use Rattle.layout.specs.declared.RecordType.the-variants.{Operation}
+use Rattle.lines.specs.Lines.{lines, textOf}
+use Rattle.lines.specs.LineFaults.{typeIs, operates}
+use Rattle.lines.specs.FaultLaws.{type-same}
+use Rattle.reading.specs.RunLaws.{with-numbered, Passing, having-at}
+use Rattle.reading.specs.Recorded.{Line, idle, recordOfType, recordsOf, HasRecord, recordAt}
 
--- one of the lines, of which the first has this number, that passes a test
-record Passing (test : List ℕ → Bool) (number : ℕ) (ls : List (List ℕ)) (r : Line) : Type 0 where
-  first : number ≤ r .number
-  last : r .number < number + length ls
-  text : getD ls (r .number - number) [] ≡ r .text
-  passes : test (r .text) ≡ true
+-- which lines are idle: 300 lines that do not operate
 
-later-passing : (test : List ℕ → Bool) (number : ℕ) (l : List ℕ) (ls : List (List ℕ)) (r : Line) → Passing test (suc number) ls r →
-    Passing test number (l ∷ ls) r
-later-passing test number l ls r p =
-    let e : r .number - number ≡ suc (r .number - suc number) = omega (arith, p .first) in
-    record { first = omega (arith, p .first); last = omega (arith, p .last); text = rw e (p .text); passes = p .passes }
+pub operation-idle : (l : List ℕ) → typeIs Operation l ≡ true → idle l ≡ not (operates l)
+unfolding idle
+operation-idle l e = rw e
 
-all-passing : (test : List ℕ → Bool) (number : ℕ) (ls : List (List ℕ)) (k : ℕ) (none : Line) → k < length (linesWith test number ls) →
-    Passing test number ls (getD (linesWith test number ls) k none)
-unfolding linesWith
-all-passing test number [] k none h = absurd (not-suc-le-zero h)
-all-passing test number (l ∷ ls) k none h = go (test l) refl k h (λ k. all-passing test (suc number) ls k none)
-  where
-    here : Line
-    here = record { number = number; text = l }
+pub other-idle : (l : List ℕ) → typeIs Operation l ≡ false → idle l ≡ false
+unfolding idle
+other-idle l e = rw e
 
-    rest : List Line
-    rest = linesWith test (suc number) ls
+pub typed-idle : (t : RecordType) → (t ≡ Operation → ⊥) → (l : List ℕ) → typeIs t l ≡ true → idle l ≡ false
+typed-idle t other l e = other-idle l (type-same t Operation l e ∙ ne-eqb _ _ (λ c. other (code-tells t Operation c)))
 
-    go : (t : Bool) → test l ≡ t → (k : ℕ) → k < length {A = Line} (elim t [ true ↦ here ∷ rest | false ↦ rest ]) →
-        ((k : ℕ) → k < length rest → Passing test (suc number) ls (getD rest k none)) →
-        Passing test number (l ∷ ls) (getD (elim t [ true ↦ here ∷ rest | false ↦ rest ]) k none)
-    go true e zero h w =
-        let z : number - number ≡ 0 = omega arith in
-        record { first = omega arith; last = omega arith; text = rw z; passes = e }
-    go true e (suc k) h w = later-passing test number l ls (getD rest k none) (w k (le-of-suc-le-suc h))
-    go false e k h w = later-passing test number l ls (getD rest k none) (w k h)
+-- a record is one of the lines, and passes the test of its type
+passing : (file : List ℕ) (t : RecordType) (k : ℕ) → k < length (recordsOf file t) → Passing (recordOfType t) 1 (lines file) (recordAt file t k)
+unfolding recordsOf
+passing file t k h =
+    let e = with-numbered (recordOfType t) (lines file) 1 in
+    rw e (having-at (recordOfType t) (lines file) (record { number = 0; text = [] }) k 1 (rw (← e) h))
 
 pub has-record : (file : List ℕ) (t : RecordType) (k : ℕ) → k < length (recordsOf file t) → HasRecord file t (recordAt file t k .number)
-unfolding recordsOf
 has-record file t k h =
-    let p = all-passing (typeIs t) 1 (lines file) k (record { number = 0; text = [] }) h in
-    record { stands = record { first = p .first; last = omega (arith, p .last) }; type = rw (p .text) (p .passes) }
+    let p = passing file t k h in
+    let n : recordAt file t k .number ≡ 1 + p .place = ap (λ (l : Line). l .number) (p .own) in
+    let i : recordAt file t k .number - 1 ≡ p .place = omega arith in
+    let text : textOf file (recordAt file t k .number) ≡ recordAt file t k .text =
+    ap (λ (i : ℕ). getD (lines file) i []) i ∙ sym (ap (λ (l : Line). l .text) (p .own)) in
+    record { stands = record { first = omega arith; last = omega (arith, p .inside) }; type = rw text (p .passes) }
+
+-- none of them is idle
+pub record-runs : (file : List ℕ) (t : RecordType) (k : ℕ) → k < length (recordsOf file t) → idle (recordAt file t k .text) ≡ false
+record-runs file t k h =
+    not-true _ (both (typeIs t (recordAt file t k .text)) (not (idle (recordAt file t k .text))) (passing file t k h .passes) .1)

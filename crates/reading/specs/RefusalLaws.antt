@@ -1,26 +1,34 @@
 -- What the line checks refuse is of a row of the table. Refuses.antt has the rows.
 use Prim.Native.Nat.{ℕ, zero, suc, _+_, _-_}
 use mathlib.Core.Path.{_≡_, refl, sym, ap, _∙_}
-use mathlib.Core.List.{List, [], _∷_, _++_}
-use mathlib.Core.Bool.{Bool, true, false}
+use mathlib.Core.List.{List, [], _∷_, _++_, map}
+use mathlib.Core.Bool.{Bool, true, false, not}
 use native.Mathlib.Omega.{arith}
 use lib.Dec.{eqb}
-use lib.ListN.{length, length-append}
+use lib.ListN.{length, drop, getD, length-append}
 use lib.Seq.{append-snoc, getD-at}
-use borrow.Author.Tests.{eqb-false}
-use Rattle.layout.specs.declared.RecordType.the-variants.{So2Concentration}
+use borrow.Author.Tests.{eqb-false, not-true}
+use Rattle.exact.specs.Logic.{both, All}
+use Rattle.layout.specs.Layout.{recordOf, codeOf, shapeWith}
+use Rattle.layout.specs.TypeLaws.{absent}
+use Rattle.layout.specs.declared.RecordType.{RecordType}
+use Rattle.layout.specs.declared.RecordType.the-variants.{So2Concentration, Operation}
+use Rattle.layout.specs.declared.Shape.{Shape}
 use Rattle.lines.specs.Lines.{lines, last, HasLine, textOf}
-use Rattle.lines.specs.LineFaults.{typeIs, periodOn, facilityLine, dateOn, hourLine, Due, dueFault}
+use Rattle.lines.specs.LineFaults.{typeIs, periodOn, facilityLine, dateOn, hourLine, Due, dueOf, dueFault, operationLine}
 use Rattle.lines.specs.FaultLaws.{facility-said}
 use Rattle.lines.specs.Shows.{Shows, ofLineChecks}
 use Rattle.lines.specs.Shows.Shows.{otherType}
-use Rattle.lines.specs.ShowsLaws.{facility-shows, hour-shows, due-shows, shows-number}
+use Rattle.lines.specs.ShowsLaws.{facility-shows, hour-shows, due-shows, operation-shows, shows-number}
 use Rattle.lines.specs.declared.Period.{Period}
 use Rattle.lines.specs.declared.FacilityLine.{FacilityLine}
 use Rattle.lines.specs.declared.FacilityLine.the-variants.{Of, Faulty as FaultyFacility}
 use Rattle.lines.specs.declared.HourLine.{HourLine}
 use Rattle.lines.specs.declared.HourLine.the-variants.{At, Faulty as FaultyHour}
-use Rattle.reading.specs.Reading.{stoppedAt, laterTypes, runsOf, reportOf, walkDue, walkLater, walkHours, walk, readOf}
+use Rattle.lines.specs.declared.operation.OperationLine.{OperationLine}
+use Rattle.lines.specs.declared.operation.OperationLine.the-variants.{Operating, Idle, Faulty as FaultyOperation}
+use Rattle.reading.specs.Reading.{stoppedAt, firstTypes, lastTypes, datesOf, runOf, runsOf, After, walkDue, endOperations, walkOperations}
+use Rattle.reading.specs.Reading.{walkEnd, walkLast, walkListed, walkLater, walkHours, walk, readOf}
 use Rattle.reading.specs.Refuses.{Refuses}
 use Rattle.reading.specs.Refuses.Refuses.{unended, faulty, missing}
 use Rattle.reading.specs.declared.Report.{Report}
@@ -38,6 +46,20 @@ record LinesFrom (file : List ℕ) (line : ℕ) (ls : List (List ℕ)) : Type 0 
 abbrev ByRow : List ℕ → Reading → Type 0
 ByRow file (Clean r) = Unit {0}
 ByRow file (Refused r) = Refuses file (r .number) (r .line)
+
+-- the lines that are due in front of the 300 lines and behind them are no 300 lines
+type-other : (t : RecordType) (dates : List (List ℕ)) (rest : List Due) → (t ≡ Operation → ⊥) → All (λ (d : Due). d .type ≡ Operation → ⊥) rest →
+    All (λ (d : Due). d .type ≡ Operation → ⊥) (map (dueOf t) dates ++ rest)
+type-other t [] rest o a = a
+type-other t (date ∷ dates) rest o a = (o, type-other t dates rest o a)
+
+pub runs-other : (ts : List RecordType) (dates : List (List ℕ)) → absent (codeOf Operation) ts ≡ true →
+    All (λ (d : Due). d .type ≡ Operation → ⊥) (runsOf ts dates)
+unfolding runsOf runOf
+runs-other [] dates n = tt
+runs-other (t ∷ ts) dates n =
+    let b = both (not (eqb (codeOf t) (codeOf Operation))) (absent (codeOf Operation) ts) n in
+    type-other t (datesOf (recordOf t .run) dates) (runsOf ts dates) (λ e. eqb-false _ _ (not-true _ (b .0)) (ap codeOf e)) (runs-other ts dates (b .1))
 
 module _ (file : List ℕ) where
   from-start : LinesFrom file 1 (lines file)
@@ -68,35 +90,88 @@ module _ (file facility : List ℕ) (first : textOf file 1 ≡ facility) where
   next-row : (line : ℕ) (l : List ℕ) (ls : List (List ℕ)) → LinesFrom file line (l ∷ ls) → (number : ℕ) → Shows facility l number → Refuses file number line
   next-row line l ls w number s = faulty number line (from-line file line l ls w) (rw (first, from-text file line l ls w) s)
 
-  due-row : (report : Report) (line : ℕ) (due : List Due) (ls : List (List ℕ)) → LinesFrom file line ls → ByRow file (walkDue report facility line due ls)
+  -- what follows some lines is clean, or refuses by a row
+  abbrev Follows : After → Type 0
+  Follows after = (line : ℕ) (ls : List (List ℕ)) → LinesFrom file line ls → ByRow file (after line ls)
+
+  due-row : (after : After) → Follows after → (line : ℕ) (due : List Due) → All (λ (d : Due). d .type ≡ Operation → ⊥) due → (ls : List (List ℕ)) →
+      LinesFrom file line ls → ByRow file (walkDue facility line due ls after)
   unfolding walkDue
-  due-row report line [] [] w = tt
-  due-row report line [] (l ∷ ls) w = next-row line l ls w 2 otherType
-  due-row report line (d ∷ ds) [] w = rw (from-end file line w) missing
-  due-row report line (d ∷ ds) (l ∷ ls) w = go (dueFault facility d l) refl (due-row report (line + 1) ds ls (from-next file line l ls w))
+  due-row after follows line [] o ls w = follows line ls w
+  due-row after follows line (d ∷ ds) o [] w = rw (from-end file line w) missing
+  due-row after follows line (d ∷ ds) o (l ∷ ls) w =
+      go (dueFault facility d l) refl (due-row after follows (line + 1) ds (o .1) ls (from-next file line l ls w))
     where
       next : Reading
-      next = walkDue report facility (line + 1) ds ls
+      next = walkDue facility (line + 1) ds ls after
 
       go : (f : ℕ) → dueFault facility d l ≡ f → ByRow file next → ByRow file (elim f [ zero ↦ next | suc c ↦ stoppedAt (suc c) line ])
       go zero e n = n
-      go (suc c) e n = next-row line l ls w (suc c) (due-shows facility d l c e)
+      go (suc c) e n = next-row line l ls w (suc c) (due-shows facility d (o .0) l c e)
 
-  later-row : (period : Period) (line : ℕ) (dates ls : List (List ℕ)) → LinesFrom file line ls → ByRow file (walkLater facility period line dates ls)
-  unfolding walkLater
-  later-row period line dates ls w = due-row (reportOf period dates) line (runsOf laterTypes dates) ls w
+  end-row : (report : Report) → Follows (walkEnd report)
+  unfolding walkEnd
+  end-row report line [] w = tt
+  end-row report line (l ∷ ls) w = next-row line l ls w 2 otherType
+
+  last-row : (period : Period) (s : Shape) (dates : List (List ℕ)) → Follows (λ line. walkLast facility period s line dates)
+  unfolding walkLast
+  last-row period s dates line ls w = due-row (walkEnd _) (end-row _) line (runsOf lastTypes dates) (runs-other lastTypes dates refl) ls w
+
+  -- the 300 lines
+
+  over-row : (after : After) → Follows after → (number line : ℕ) (dates ls : List (List ℕ)) → LinesFrom file line ls → Refuses file number line →
+      ByRow file (endOperations number line dates ls after)
+  unfolding endOperations
+  over-row after follows number line [] ls w r = follows line ls w
+  over-row after follows number line (d ∷ ds) ls w r = r
+
+  operations-row : (after : After) → Follows after → (ls : List (List ℕ)) (line from : ℕ) (dates : List (List ℕ)) → LinesFrom file line ls →
+      ByRow file (walkOperations facility (periodOn facility) line from dates ls after)
+  unfolding walkOperations
+  operations-row after follows [] line from dates w = over-row after follows 10 line dates [] w (rw (from-end file line w) missing)
+  operations-row after follows (l ∷ ls) line from dates w =
+      either (typeIs Operation l)
+      (go (operationLine facility (periodOn facility) from (getD dates 0 []) l) refl
+      (λ hour left. operations-row after follows ls (line + 1) (hour + 1) left (from-next file line l ls w)))
+    where
+      next : ℕ → List (List ℕ) → Reading
+      next hour left = walkOperations facility (periodOn facility) (line + 1) (hour + 1) left ls after
+
+      said : OperationLine → Reading
+      said o = elim o [ Operating hour ↦ next hour (drop 1 dates) | Idle hour ↦ next hour dates | FaultyOperation number ↦ stoppedAt number line ]
+
+      go : (o : OperationLine) → operationLine facility (periodOn facility) from (getD dates 0 []) l ≡ o →
+          ((hour : ℕ) (left : List (List ℕ)) → ByRow file (next hour left)) → ByRow file (said o)
+      go (Operating hour) e n = n hour (drop 1 dates)
+      go (Idle hour) e n = n hour dates
+      go (FaultyOperation number) e n = next-row line l ls w number (operation-shows facility from (getD dates 0 []) l number e)
+
+      either : (t : Bool) → ByRow file (said (operationLine facility (periodOn facility) from (getD dates 0 []) l)) →
+          ByRow file (elim t [
+            | false ↦ endOperations 2 line dates (l ∷ ls) after
+            | true ↦ said (operationLine facility (periodOn facility) from (getD dates 0 []) l)
+          ])
+      either false n = over-row after follows 2 line dates (l ∷ ls) w (next-row line l ls w 2 otherType)
+      either true n = n
+
+  later-row : (line : ℕ) (dates ls : List (List ℕ)) → LinesFrom file line ls → ByRow file (walkLater facility (periodOn facility) line dates ls)
+  unfolding walkLater walkListed
+  later-row line dates ls w =
+      due-row _ (λ next rest v. operations-row _ (λ end. last-row (periodOn facility) (shapeWith (length dates) (end - next)) dates end) rest next 0 dates v)
+      line (runsOf firstTypes dates) (runs-other firstTypes dates refl) ls w
 
   hours-row : (ls : List (List ℕ)) (line from : ℕ) (dates : List (List ℕ)) → LinesFrom file line ls →
       ByRow file (walkHours facility (periodOn facility) line from dates ls)
   unfolding walkHours
-  hours-row [] line from dates w = later-row (periodOn facility) line dates [] w
+  hours-row [] line from dates w = later-row line dates [] w
   hours-row (l ∷ ls) line from dates w =
       either (typeIs So2Concentration l) _
       (go (hourLine facility (periodOn facility) from l) refl
-      (λ hour. hours-row ls (line + 1) (hour + 1) (dates ++ (dateOn l ∷ [])) (from-next file line l ls w)))
+      (λ hour. hours-row ls (line + 1) (hour + 1) (dates ++ (dateOn So2Concentration l ∷ [])) (from-next file line l ls w)))
     where
       next : ℕ → Reading
-      next hour = walkHours facility (periodOn facility) (line + 1) (hour + 1) (dates ++ (dateOn l ∷ [])) ls
+      next hour = walkHours facility (periodOn facility) (line + 1) (hour + 1) (dates ++ (dateOn So2Concentration l ∷ [])) ls
 
       go : (h : HourLine) → hourLine facility (periodOn facility) from l ≡ h → ((hour : ℕ) → ByRow file (next hour)) →
           ByRow file (elim h [ At hour ↦ next hour | FaultyHour number ↦ stoppedAt number line ])
@@ -107,7 +182,7 @@ module _ (file facility : List ℕ) (first : textOf file 1 ≡ facility) where
       later = walkLater facility (periodOn facility) line dates (l ∷ ls)
 
       either : (t : Bool) (r : Reading) → ByRow file r → ByRow file (elim t [ false ↦ later | true ↦ r ])
-      either false r n = later-row (periodOn facility) line dates (l ∷ ls) w
+      either false r n = later-row line dates (l ∷ ls) w
       either true r n = n
 
 walk-row : (file : List ℕ) (ls : List (List ℕ)) → LinesFrom file 1 ls → ByRow file (walk ls)

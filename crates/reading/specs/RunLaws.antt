@@ -2,7 +2,7 @@
 use Prim.Native.Nat.{ℕ, zero, suc, _+_, _<_}
 use mathlib.Core.Path.{_≡_, refl, ap, _∙_}
 use mathlib.Core.List.{List, [], _∷_, _++_, append-nil}
-use mathlib.Core.Bool.{Bool, true, false, cond, not}
+use mathlib.Core.Bool.{Bool, true, false, cond, not, _&&_}
 use native.Mathlib.Omega.{arith}
 use native.Mathlib.Nat.{le-of-suc-le-suc, not-suc-le-zero}
 use native.Mathlib.Numerals.{add-one}
@@ -18,7 +18,7 @@ use Rattle.layout.specs.declared.RecordType.{RecordType}
 use Rattle.lines.specs.LineFaults.{typeIs}
 use Rattle.lines.specs.FaultLaws.{type-same}
 use Rattle.reading.specs.Recorded.{Line, linesWith}
-use Rattle.reading.specs.Places.{numbered}
+use Rattle.reading.specs.Places.{numbered, having}
 
 -- lines of one type that follow each other
 pub record LineRun : Type 0 where
@@ -149,3 +149,81 @@ numbered-at (l ∷ ls) none zero number h = let z : number + 0 ≡ number = omeg
 numbered-at (l ∷ ls) none (suc k) number h =
     let z : suc number + k ≡ number + suc k = omega arith in
     rw z at (numbered-at ls none k (suc number) (le-of-suc-le-suc h))
+
+-- the lines that pass a test: of all, numbered, those that pass it
+pub with-numbered : (test : List ℕ → Bool) (ls : List (List ℕ)) (number : ℕ) → linesWith test number ls ≡ having test (numbered number ls)
+unfolding linesWith having numbered
+with-numbered test [] number = refl
+with-numbered test (l ∷ ls) number =
+    ap (λ (rest : List Line). elim (test l) [ true ↦ record { number = number; text = l } ∷ rest | false ↦ rest ]) (with-numbered test ls (suc number))
+
+-- lines that pass two tests: of those that pass the one, those that pass the other
+pub with-both : (p q : List ℕ → Bool) (ls : List (List ℕ)) (number : ℕ) → linesWith (λ l. p l && q l) number ls ≡ having q (linesWith p number ls)
+unfolding linesWith having
+with-both p q [] number = refl
+with-both p q (l ∷ ls) number = go (p l) (with-both p q ls (suc number))
+  where
+    here : Line
+    here = record { number = number; text = l }
+
+    both-left : List Line
+    both-left = linesWith (λ l. p l && q l) (suc number) ls
+
+    left : List Line
+    left = linesWith p (suc number) ls
+
+    either : (b : Bool) → both-left ≡ having q left → _≡_ {A = List Line}
+        (elim b [ true ↦ here ∷ both-left | false ↦ both-left ]) (elim b [ true ↦ here ∷ having q left | false ↦ having q left ])
+    either true e = ap (λ (ls : List Line). here ∷ ls) e
+    either false e = e
+
+    go : (a : Bool) → both-left ≡ having q left →
+        elim (a && q l) [ true ↦ here ∷ both-left | false ↦ both-left ] ≡ having q (elim a [ true ↦ here ∷ left | false ↦ left ])
+    go true e = either (q l) e
+    go false e = e
+
+-- tests that agree on every line
+pub same-tests : (p q : List ℕ → Bool) (ls : List (List ℕ)) (number : ℕ) → All (λ l. p l ≡ q l) ls → linesWith p number ls ≡ linesWith q number ls
+unfolding linesWith
+same-tests p q [] number a = refl
+same-tests p q (l ∷ ls) number a =
+    rw (a .0, linesWith) (ap (λ (rest : List Line). elim (q l) [ true ↦ record { number = number; text = l } ∷ rest | false ↦ rest ])
+    (same-tests p q ls (suc number) (a .1)))
+
+-- a line that passes a test, of some that follow each other
+pub record Passing (test : List ℕ → Bool) (number : ℕ) (ls : List (List ℕ)) (l : Line) : Type 0 where
+  pub place : ℕ
+  pub inside : place < length ls
+  pub own : l ≡ record { number = number + place; text = getD ls place [] }
+  pub passes : test (l .text) ≡ true
+
+pub having-at : (test : List ℕ → Bool) (ls : List (List ℕ)) (none : Line) (k number : ℕ) → k < length (having test (numbered number ls)) →
+    Passing test number ls (getD (having test (numbered number ls)) k none)
+unfolding having numbered
+having-at test [] none k number h = absurd (not-suc-le-zero h)
+having-at test (l ∷ ls) none k number h = go (test l) refl k h (λ j. having-at test ls none j (suc number))
+  where
+    here : Line
+    here = record { number = number; text = l }
+
+    rest : List Line
+    rest = having test (numbered (suc number) ls)
+
+    later : {x : Line} → Passing test (suc number) ls x → Passing test number (l ∷ ls) x
+    later p =
+        let z : suc number + p .place ≡ number + suc (p .place) = omega arith in
+        record { place = suc (p .place); inside = omega (arith, p .inside); own = rw (← z) (p .own); passes = p .passes }
+
+    go : (b : Bool) → test l ≡ b → (k : ℕ) → k < length {A = Line} (elim b [ true ↦ here ∷ rest | false ↦ rest ]) →
+        ((j : ℕ) → j < length rest → Passing test (suc number) ls (getD rest j none)) →
+        Passing test number (l ∷ ls) (getD (elim b [ true ↦ here ∷ rest | false ↦ rest ]) k none)
+    go true e zero h w = let z : number + 0 ≡ number = omega arith in record { place = 0; inside = omega arith; own = rw z; passes = e }
+    go true e (suc k) h w = later (w k (le-of-suc-le-suc h))
+    go false e k h w = later (w k h)
+
+-- where every line passes, all are left
+pub having-all : (test : List ℕ → Bool) (ls : List (List ℕ)) (number : ℕ) → All (λ l. test l ≡ true) ls → having test (numbered number ls) ≡ numbered number ls
+unfolding having numbered
+having-all test [] number a = refl
+having-all test (l ∷ ls) number a =
+    rw (a .0, having) (ap (λ (rest : List Line). record { number = number; text = l } ∷ rest) (having-all test ls (suc number) (a .1)))

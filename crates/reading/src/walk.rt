@@ -7,15 +7,17 @@ use layout::Run;
 use layout::Shape;
 use lines::HourLine;
 use lines::Period;
+use lines::operation::OperationLine;
 ghost use mathlib.Core.Path.{_≡_};
 ghost use mathlib.Core.List.{[]};
 ghost use Prim.Native.Nat.{_+_, _≤_, _<_};
-ghost use lib.ListN.{length, drop};
+ghost use lib.ListN.{length, drop, getD};
 ghost use Rattle.calendar.specs.Calendar.{IsQuarter};
-ghost use Rattle.layout.specs.Layout.{lengthOf, countOf, shape};
+ghost use Rattle.layout.specs.Layout.{lengthOf, countOf, order, shape};
 ghost use Rattle.lines.specs.Lines.{lines};
-ghost use Rattle.reading.specs.Reading.{stoppedAt, walkLater, walkHours};
-ghost use Rattle.reading.specs.Places.{facilityOf, hourStart, datesIn, Counted, dateDue};
+ghost use Rattle.reading.specs.Reading.{stoppedAt, walkLast, walkListed, walkLater, walkHours};
+ghost use Rattle.reading.specs.Places.{facilityOf, hourStart, dateIn, datesIn, Counted, dateDue};
+ghost use Rattle.reading.specs.Passages.{onAt, haltedAt, endPassage, Here, PassesRuns, PassesOperations};
 
 pub fn stopped(number: u64, line: usize) -> Reading
     ensures { λ r. ⌜ r ≡ stoppedAt number line ⌝ }
@@ -23,8 +25,41 @@ pub fn stopped(number: u64, line: usize) -> Reading
     Reading::Refused(Refusal { number, line })
 }
 
+// How far the walk has come: the number of the next line, and where it starts, in bytes.
+struct Cursor {
+    line: usize,
+    at: usize,
+}
+
+// How some lines are passed: on to the next, or not.
+enum Passage {
+    On(Cursor),
+    Stopped(Refusal),
+}
+
+fn on(line: usize, at: usize) -> Passage
+    ensures { λ r. ⌜ r ≡ onAt line at ⌝ }
+{
+    Passage::On(Cursor { line, at })
+}
+
+fn halted(number: u64, line: usize) -> Passage
+    ensures { λ r. ⌜ r ≡ haltedAt number line ⌝ }
+{
+    Passage::Stopped(Refusal { number, line })
+}
+
 // Where the date of the first 200 line starts, in bytes.
 const FIRST_DATE: usize = layout::FACILITY_BYTES + layout::SO2_DATE - 1;
+
+// The date of the 200 line of rank k.
+fn hour_date(file: &[u8], n: usize, k: usize) -> &[u8]
+    requires { ⌜ Counted (now file) n × (k < n) ⌝ }
+    ensures { λ r. ⌜ now r ≡ dateIn (now (file .entry)) k ⌝ }
+{
+    let from = FIRST_DATE + layout::SO2_BYTES * k;
+    &file[from..from + layout::DATE_WIDTH]
+}
 
 // The date that the line of rank k of a type must have: that of the 200 line of this rank.
 fn date_due(file: &[u8], t: RecordType, n: usize, k: usize) -> &[u8]
@@ -34,34 +69,48 @@ fn date_due(file: &[u8], t: RecordType, n: usize, k: usize) -> &[u8]
     let run = layout::row_of(t).run;
     match run {
         Run::Once => &file[..0],
-        Run::Hourly => {
-            let from = FIRST_DATE + layout::SO2_BYTES * k;
-            &file[from..from + layout::DATE_WIDTH]
-        },
+        Run::Hourly => hour_date(file, n, k),
+        Run::Listed => hour_date(file, n, k),
     }
 }
 
-// The lines behind n 200 lines.
-fn walk_later(file: &[u8], period: Period, n: usize) -> Reading
+// The date of the operating hour of rank k, if there is one.
+fn date_left(file: &[u8], n: usize, k: usize) -> &[u8]
     requires { ⌜ Counted (now file) n ⌝ }
-    ensures { λ r. ⌜ r ≡ walkLater (facilityOf (now (file .entry))) period (2 + n) (datesIn (now (file .entry)) n)
-        (lines (drop (hourStart n) (now (file .entry)))) ⌝ }
+    ensures { λ r. ⌜ now r ≡ getD (drop k (datesIn (now (file .entry)) n)) 0 [] ⌝ }
+{
+    if k < n {
+        return hour_date(file, n, k);
+    }
+    &file[..0]
+}
+
+// The lines of the types from the place `first` on to the place `end`, behind n 200 lines; the 300 lines have a walk of their own.
+fn walk_runs(file: &[u8], n: usize, first: usize, end: usize, start: Cursor) -> Passage
+    requires { ⌜ Counted (now file) n × Here (now file) start × (first ≤ end) × (end ≤ length order) ⌝ }
+    ensures { λ r. ⌜ PassesRuns (now (file .entry)) n first end start r ⌝ }
 {
     let facility = &file[..layout::FACILITY_LENGTH];
-    let mut at = layout::FACILITY_BYTES + layout::SO2_BYTES * n;
-    let mut line = 2 + n;
-    let mut place = layout::SO2_PLACE + 1;
-    while place < layout::TYPES {
+    let mut at = start.at;
+    let mut line = start.line;
+    let mut place = first;
+    while place < end {
         let t = layout::type_at(place);
-        let count = layout::count_of(Shape { hours: n }, t);
+        let count = layout::count_of(
+            Shape {
+                hours: n,
+                operations: n,
+            },
+            t,
+        );
         let mut k = 0;
         while k < count {
             if file.len() <= at {
-                return stopped(10, line);
+                return halted(10, line);
             }
             let fault = lines::due_fault(facility, date_due(file, t, n, k), &file[at..], t);
             if fault != 0 {
-                return stopped(fault, line);
+                return halted(fault, line);
             }
             at += layout::line_length(t) + 1;
             line += 1;
@@ -69,13 +118,124 @@ fn walk_later(file: &[u8], period: Period, n: usize) -> Reading
         }
         place += 1;
     }
-    if at < file.len() {
-        return stopped(2, line);
+    on(line, at)
+}
+
+// Behind the last 300 line, with k of n operating hours read: the number is the refusal's where one is missing.
+fn end_operations(n: usize, k: usize, number: u64, line: usize, at: usize) -> Passage
+    ensures { λ r. ⌜ r ≡ endPassage n k number line at ⌝ }
+{
+    if n <= k {
+        return on(line, at);
     }
-    Reading::Clean(Report {
-        period,
-        shape: Shape { hours: n },
-    })
+    halted(number, line)
+}
+
+// The 300 lines, of n operating hours and any that are idle.
+fn walk_operations(file: &[u8], period: Period, n: usize, start: Cursor) -> Passage
+    requires { ⌜ Counted (now file) n × Here (now file) start × IsQuarter (period .quarter) ⌝ }
+    ensures { λ r. ⌜ PassesOperations (now (file .entry)) period n start r ⌝ }
+{
+    let facility = &file[..layout::FACILITY_LENGTH];
+    let mut at = start.at;
+    let mut line = start.line;
+    let mut from = 0;
+    let mut rank = 0;
+    while at < file.len() {
+        let rest = &file[at..];
+        if !lines::shape::type_is(rest, RecordType::Operation) {
+            return end_operations(n, rank, 2, line, at);
+        }
+        let said = lines::operation::operation_line(
+            facility,
+            rest,
+            period,
+            from,
+            date_left(file, n, rank),
+        );
+        match said {
+            OperationLine::Faulty(number) => {
+                return halted(number, line);
+            }
+            OperationLine::Idle(idle) => {
+                from = idle + 1;
+            }
+            OperationLine::Operating(operating) => {
+                from = operating + 1;
+                rank += 1;
+            }
+        }
+        at += layout::OPERATION_BYTES;
+        line += 1;
+    }
+    end_operations(n, rank, 10, line, at)
+}
+
+// The lines behind the last 300 line.
+fn walk_last(file: &[u8], period: Period, s: Shape, start: Cursor) -> Reading
+    requires { ⌜ Counted (now file) (s .hours) × Here (now file) start ⌝ }
+    ensures { λ r. ⌜ r ≡ walkLast (facilityOf (now (file .entry))) period s (start .line) (datesIn (now (file .entry)) (s .hours))
+        (lines (drop (start .at) (now (file .entry)))) ⌝ }
+{
+    let last = walk_runs(
+        file,
+        s.hours,
+        layout::OPERATION_PLACE + 1,
+        layout::TYPES,
+        start,
+    );
+    match last {
+        Passage::Stopped(refusal) => Reading::Refused(refusal),
+        Passage::On(end) => {
+            if end.at < file.len() {
+                return stopped(2, end.line);
+            }
+            Reading::Clean(Report { period, shape: s })
+        }
+    }
+}
+
+// The lines behind the last 220 line.
+fn walk_listed(file: &[u8], period: Period, n: usize, start: Cursor) -> Reading
+    requires { ⌜ Counted (now file) n × Here (now file) start × IsQuarter (period .quarter) ⌝ }
+    ensures { λ r. ⌜ r ≡ walkListed (facilityOf (now (file .entry))) period (start .line) (datesIn (now (file .entry)) n)
+        (lines (drop (start .at) (now (file .entry)))) ⌝ }
+{
+    let listed = walk_operations(file, period, n, start);
+    match listed {
+        Passage::Stopped(refusal) => Reading::Refused(refusal),
+        Passage::On(next) => walk_last(
+            file,
+            period,
+            Shape {
+                hours: n,
+                operations: next.line - start.line,
+            },
+            next,
+        ),
+    }
+}
+
+// The lines behind n 200 lines.
+fn walk_later(file: &[u8], period: Period, n: usize) -> Reading
+    requires { ⌜ Counted (now file) n × IsQuarter (period .quarter) ⌝ }
+    ensures { λ r. ⌜ r ≡ walkLater (facilityOf (now (file .entry))) period (2 + n) (datesIn (now (file .entry)) n)
+        (lines (drop (hourStart n) (now (file .entry)))) ⌝ }
+{
+    let hours = walk_runs(
+        file,
+        n,
+        layout::SO2_PLACE + 1,
+        layout::OPERATION_PLACE,
+        Cursor {
+            line: 2 + n,
+            at: layout::FACILITY_BYTES + layout::SO2_BYTES * n,
+        },
+    );
+    match hours {
+        Passage::Stopped(refusal) => Reading::Refused(refusal),
+        Passage::On(next) => walk_listed(file, period, n, next),
+    }
 }
 
 // The lines behind the facility line: as many 200 lines as there are, and the others.

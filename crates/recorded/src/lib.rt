@@ -7,27 +7,55 @@ use layout::Shape;
 use totals::Quarter;
 ghost use mathlib.Core.Path.{_≡_};
 ghost use Prim.Native.Nat.{_<_};
-ghost use Rattle.layout.specs.Layout.{valueCount, countOf};
-ghost use Rattle.reading.specs.Recorded.{valueOn, hourAt, totalsIn};
-ghost use Rattle.reading.specs.Places.{Standing};
+ghost use lib.ListN.{length};
+ghost use Rattle.columns.specs.Number.{numberOf};
+ghost use Rattle.layout.specs.Layout.{valueCount, valueAt, countOf};
+ghost use Rattle.lines.specs.LineFaults.{fieldIn};
+ghost use Rattle.reading.specs.Recorded.{hourAt, totalsIn};
+ghost use Rattle.reading.specs.Places.{lineAt, Standing, operatingFrom, operatingPlace};
+ghost use Rattle.reading.specs.Places.{Stands};
+ghost use Rattle.recorded.specs.ListedHours.{listedHour};
 
-// The i-th value of the record of rank k of a type, in a file of a shape whose lines are right.
-fn value_in(file: &[u8], s: Shape, t: RecordType, k: usize, i: usize) -> u64
-    requires { ⌜ Standing (now file) s × (k < countOf s t) × (i < valueCount t) ⌝ }
-    ensures { λ r. ⌜ r ≡ valueOn (now (file .entry)) t k i ⌝ }
+// The i-th value on the line at a place of a type's run, from 0, in a file of a shape whose lines are right.
+fn value_in(file: &[u8], s: Shape, t: RecordType, p: usize, i: usize) -> u64
+    requires { ⌜ Standing (now file) s × (p < countOf s t) × (i < valueCount t) ⌝ }
+    ensures { λ r. ⌜ r ≡ numberOf (fieldIn (valueAt t i) (lineAt (now (file .entry)) s t p .text)) ⌝ }
 {
     let v = layout::value_at(t, i);
-    let start = layout::offset_of(s, t, k) + v.start;
+    let start = layout::offset_of(s, t, p) + v.start;
     columns::number_of(columns::read_number(file, start, v.width, v.decimals))
 }
 
-// Operating hour k, from 0, of a file of a shape whose lines are right.
-pub fn hour(file: &[u8], s: Shape, k: usize) -> Hour
-    requires { ⌜ Standing (now file) s × (k < s .hours) ⌝ }
+// An operating hour among the 300 lines: the place of its line, from 0, and its time.
+pub struct ListedHour {
+    pub place: usize,
+    pub time: u64,
+}
+
+// The first operating hour from place p on, of a file of a shape whose lines are right, where one follows.
+pub fn operating_from(file: &[u8], s: Shape, p: usize) -> ListedHour
+    requires { ⌜ Standing (now file) s × (0 < length (operatingFrom (now file) s p)) ⌝ }
+    ensures { λ r. ⌜ r ≡ listedHour (now (file .entry)) s (operatingPlace (now (file .entry)) s p) ⌝ }
+{
+    let mut place = p;
+    while place < s.operations {
+        let time = value_in(file, s, RecordType::Operation, place, 0);
+        if time != 0 {
+            return ListedHour { place, time };
+        }
+        place += 1;
+    }
+    ListedHour { place, time: 0 }
+}
+
+// ListedHour hour k, from 0, of a file of a shape whose lines are right; `at` is its 300 line.
+pub fn hour(file: &[u8], s: Shape, k: usize, at: ListedHour) -> Hour
+    requires { ⌜ Standing (now file) s × (k < s .hours) × Stands (now file) s RecordType.Operation k (at .place)
+        × (at ≡ listedHour (now file) s (at .place)) ⌝ }
     ensures { λ r. ⌜ r ≡ hourAt (now (file .entry)) k ⌝ }
 {
     Hour {
-        time: value_in(file, s, RecordType::Operation, k, 0),
+        time: at.time,
         readings: Readings {
             so2: value_in(file, s, RecordType::So2Concentration, k, 0),
             nox: value_in(file, s, RecordType::NoxConcentration, k, 0),
@@ -36,7 +64,7 @@ pub fn hour(file: &[u8], s: Shape, k: usize) -> Hour
             fc: value_in(file, s, RecordType::NoxRate, k, 0),
         },
         figures: Figures {
-            heat: value_in(file, s, RecordType::Operation, k, 1),
+            heat: value_in(file, s, RecordType::Operation, at.place, 1),
             so2: value_in(file, s, RecordType::So2Mass, k, 0),
             nox: value_in(file, s, RecordType::NoxRate, k, 1),
             co2: value_in(file, s, RecordType::Co2Mass, k, 0),

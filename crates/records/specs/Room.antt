@@ -9,6 +9,7 @@ use Rattle.layout.specs.declared.Shape.{Shape}
 -- an hour of a report that a buffer has room for
 pub record HourFits (s : Shape) (k : ℕ) (name buffer : List ℕ) : Type 0 where
   pub rank : k < s .hours
+  pub listed : k < s .operations
   pub held : Held s
   pub named : length name ≡ stackWidth
   pub room : reportLength s ≤ length buffer

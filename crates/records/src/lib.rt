@@ -1,15 +1,14 @@
 // The records of a report, each written into its own part of the lent buffer.
 use formulas::hour::Hour;
 use layout::RecordType;
-use layout::Run;
 use layout::Shape;
 use totals::Quarter;
 ghost use mathlib.Core.Path.{_≡_};
-ghost use Prim.Native.Nat.{_+_, _<_};
+ghost use Prim.Native.Nat.{_+_, _≤_, _<_};
 ghost use lib.ListN.{length, take};
 ghost use Rattle.columns.specs.Columns.{put};
 ghost use Rattle.columns.specs.Written.{digitsOf};
-ghost use Rattle.layout.specs.Layout.{recordOf, lengthOf, stackWidth, dateWidth, valueCount, valuesOf, offsetOf};
+ghost use Rattle.layout.specs.Layout.{lengthOf, dateColumn, stackWidth, dateWidth, valueCount, valuesOf, offsetOf};
 ghost use Rattle.formulas.specs.Hour.{ReadingsWithin};
 ghost use Rattle.records.specs.Records.{headed, valued, ended, facilityRecord, hourValues, datedRecord, totalsRecord};
 ghost use Rattle.records.specs.Room.{HourFits};
@@ -54,7 +53,7 @@ fn facility_record(line: &mut [u8], name: &[u8], year: u64, quarter: u64)
 
 // The values of an hour in its record of a type, and zeros behind them.
 fn hour_values(t: RecordType, h: Hour) -> [u64; layout::MOST_VALUES]
-    requires { ⌜ (recordOf t .run ≡ Run.Hourly) × ReadingsWithin (h .readings) ⌝ }
+    requires { ⌜ (1 ≤ dateColumn t) × ReadingsWithin (h .readings) ⌝ }
     ensures { λ r. ⌜ take (valueCount t) r ≡ hourValues t h ⌝ }
 {
     match t {
@@ -73,7 +72,7 @@ fn hour_values(t: RecordType, h: Hour) -> [u64; layout::MOST_VALUES]
 
 // The record of an hour, whose date is a number of eight digits.
 fn hour_record(line: &mut [u8], name: &[u8], t: RecordType, date: u64, h: Hour)
-    requires { ⌜ (length (now line) ≡ lengthOf t) × (length (now name) ≡ stackWidth) × (recordOf t .run ≡ Run.Hourly) × ReadingsWithin (h .readings) ⌝ }
+    requires { ⌜ (length (now line) ≡ lengthOf t) × (length (now name) ≡ stackWidth) × (1 ≤ dateColumn t) × ReadingsWithin (h .readings) ⌝ }
     ensures { λ _. ⌜ now (line .exit) ≡ datedRecord (now (name .entry)) t (digitsOf dateWidth date) h ⌝ }
 {
     write_heading(line, name, t);
@@ -112,7 +111,7 @@ pub fn write_hour(
     date: u64,
     h: Hour,
 )
-    requires { ⌜ HourFits s k (now name) (now buffer) × (recordOf t .run ≡ Run.Hourly) × ReadingsWithin (h .readings) ⌝ }
+    requires { ⌜ HourFits s k (now name) (now buffer) × (1 ≤ dateColumn t) × ReadingsWithin (h .readings) ⌝ }
     ensures { λ _. ⌜ now (buffer .exit)
         ≡ put (offsetOf s t k + 1) (ended (datedRecord (now (name .entry)) t (digitsOf dateWidth date) h)) (now (buffer .entry)) ⌝ }
 {

@@ -8,7 +8,7 @@ use lib.ListN.{length}
 use borrow.Author.Tests.{leb-true, ltb-true, eqb-true}
 use Rattle.exact.specs.Logic.{ranked}
 use Rattle.columns.specs.Bytes.{all, isBlank, isPrintable}
-use Rattle.calendar.specs.Calendar.{IsQuarter, hoursInQuarter}
+use Rattle.calendar.specs.Calendar.{mostHours, IsQuarter, hoursInQuarter}
 use Rattle.calendar.specs.CalendarLaws.{hours-in-quarter}
 use Rattle.layout.specs.Layout.{Within, Held, yearDigits, timeHours, flowScfh, scfhOf}
 use Rattle.exact.specs.Logic.{both}
@@ -111,7 +111,9 @@ module _ (below : ℕ) where
 
 pub shape-held : (year quarter : ℕ) (name sheet : List ℕ) → Shaped year quarter name sheet → Held (shapeOf sheet)
 shape-held year quarter name sheet s =
-    record { hours = omega (arith, rise-count _ _ _ (s .rises), sheet-hours-count sheet, hours-in-quarter year quarter (s .heading .isQuarter)) }
+    let few : sheetHourCount sheet ≤ mostHours =
+    omega (arith, rise-count _ _ _ (s .rises), sheet-hours-count sheet, hours-in-quarter year quarter (s .heading .isQuarter)) in
+    record { hours = few; operations = few }
 
 -- an hour that 32 does not refuse
 pub readings-true : (h : SheetHour) → readingsHold h ≡ true →

@@ -104,8 +104,10 @@ pub fn recorded_readings(h: SheetHour) -> Readings
 pub fn shape_of(sheet: &[u32]) -> Shape
     ensures { λ r. ⌜ r ≡ shapeOf (now (sheet .entry)) ⌝ }
 {
+    let hours = sheet.len() / HOUR_WORDS;
     Shape {
-        hours: sheet.len() / HOUR_WORDS,
+        hours,
+        operations: hours,
     }
 }
 

@@ -13,14 +13,14 @@ use lib.Seq.{drop-append-le, drop-cons, drop-drop, ext-getD}
 use Rattle.exact.specs.Logic.{mapped-at}
 use Rattle.columns.specs.Columns.{put}
 use Rattle.columns.specs.ColumnsLaws.{put-length, put-behind}
-use Rattle.layout.specs.Layout.{recordOf, order, rankOf, hourly, keepHourly, lengthOf, stackWidth, countOf, bytesOf, frontOf, offsetOf, reportLength}
+use Rattle.layout.specs.Layout.{recordOf, order, rankOf, hourly, keepHourly, lengthOf, stackWidth, countOf, bytesOf, frontOf, offsetOf, reportLength, dateColumn, shape}
 use Rattle.layout.specs.LayoutLaws.{in-order}
 use Rattle.layout.specs.PlaceLaws.{line-inside}
-use Rattle.layout.specs.RunLaws.{once-type, in-run}
+use Rattle.layout.specs.RunLaws.{once-type, in-run, hourly-dated, listed-dated, once-or-dated, dated-count, keep-dated}
 use Rattle.stamp.specs.Stamp.{stampOf}
 use Rattle.totals.specs.Totals.{quarterTotals}
 use Rattle.layout.specs.declared.Run.{Run}
-use Rattle.layout.specs.declared.Run.the-variants.{Once, Hourly}
+use Rattle.layout.specs.declared.Run.the-variants.{Once, Hourly, Listed}
 use Rattle.layout.specs.declared.RecordType.{RecordType}
 use Rattle.layout.specs.declared.RecordType.the-variants.{Facility, QuarterTotals}
 use Rattle.layout.specs.declared.Shape.{Shape}
@@ -36,8 +36,14 @@ use Rattle.writer.proofs.Puts.{Own, Right, unknown, put-fills, put-keep
 drop-next : {A : Type 0} (xs : List A) (k : ℕ) (a : A) (rest : List A) → drop k xs ≡ a ∷ rest → drop (k + 1) xs ≡ rest
 drop-next xs k a rest e = sym (drop-drop 1 k xs) ∙ ap (drop 1) e
 
-module _ (year quarter : ℕ) (name : List ℕ) (named : length name ≡ stackWidth) (hours : List ReportHour) (s : Shape) (count : length hours ≡ s .hours)
-    (before : List ℕ) (room : reportLength s ≤ length before) where
+module _ (year quarter : ℕ) (name : List ℕ) (named : length name ≡ stackWidth) (hours : List ReportHour) (s : Shape)
+    (own : s ≡ shape (length hours)) (before : List ℕ) (room : reportLength s ≤ length before) where
+  count : length hours ≡ s .hours
+  count = ap (λ (s : Shape). s .hours) (sym own)
+
+  dated-hours : (t : RecordType) → 1 ≤ dateColumn t → countOf s t ≡ s .hours
+  dated-hours t d = ap (λ (s : Shape). countOf s t) own ∙ dated-count t d (length hours) ∙ count
+
   abbrev text : List ℕ
   text = report year quarter name hours
 
@@ -45,7 +51,7 @@ module _ (year quarter : ℕ) (name : List ℕ) (named : length name ≡ stackWi
   whole = put 1 text before
 
   text-long : length text ≡ reportLength s
-  text-long = written-length year quarter name hours named s count
+  text-long = written-length year quarter name hours named s own
 
   whole-long : length whole ≡ length before
   whole-long = put-length 1 text before (omega (arith, text-long))
@@ -58,12 +64,12 @@ module _ (year quarter : ℕ) (name : List ℕ) (named : length name ≡ stackWi
       let i = line-inside s t k h in
       let at : offsetOf s t k ≤ length text = omega (arith, text-long) in
       record {
-        rest = behindRecord year quarter name hours named s count t k ++ drop (0 + length text) before;
+        rest = behindRecord year quarter name hours named s own t k ++ drop (0 + length text) before;
         there =
             drop-append-le (offsetOf s t k) text (drop (0 + length text) before) at
             ∙ ap (λ (l : List ℕ). l ++ drop (0 + length text) before)
-            (record-place year quarter name hours named s count t k h
-            ∙ ap (λ (r : List ℕ). ended r ++ behindRecord year quarter name hours named s count t k) e)
+            (record-place year quarter name hours named s own t k h
+            ∙ ap (λ (r : List ℕ). ended r ++ behindRecord year quarter name hours named s own t k) e)
             ∙ append-assoc (ended line) _ _;
         fits = omega (arith, ended-length line l, whole-long);
       }
@@ -73,9 +79,9 @@ module _ (year quarter : ℕ) (name : List ℕ) (named : length name ≡ stackWi
     pub rank-below : k < s .hours
     rank-below = omega (arith, length-drop k hours, ap length here, count)
 
-    own-hour : (t : RecordType) → recordOf t .run ≡ Hourly → Own whole (offsetOf s t k) (ended (hourRecord year quarter name t h))
+    own-hour : (t : RecordType) → 1 ≤ dateColumn t → Own whole (offsetOf s t k) (ended (hourRecord year quarter name t h))
     own-hour t e =
-        let few : k < countOf s t = rw e rank-below in
+        let few : k < countOf s t = rw (dated-hours t e) rank-below in
         let rs = ap (λ (rs : List (List ℕ)). getD rs k []) (hour-records year quarter name hours t e) in
         let m = rank-below in
         let own : getD hours k h ≡ h = ap (λ (l : List ReportHour). getD l 0 h) (sym (drop-cons hours k h (omega (arith, count, m))) ∙ here) in
@@ -97,24 +103,26 @@ module _ (year quarter : ℕ) (name : List ℕ) (named : length name ≡ stackWi
           go : (run : Run) → recordOf t .run ≡ run → ((b : List ℕ) → Right whole i P b → Right whole i P (withLines (hourly ts) b))
               → Right whole i P (withLines (keepHourly run t (hourly ts)) buffer)
           go Once e more = more buffer r
-          go Hourly e more = more _ (put-keeps (own-hour t e) r)
+          go Hourly e more = more _ (put-keeps (own-hour t (hourly-dated t e)) r)
+          go Listed e more = more _ (put-keeps (own-hour t (listed-dated t e)) r)
 
-      lines-fill : (t : RecordType) → recordOf t .run ≡ Hourly → offsetOf s t k ≤ i → i < offsetOf s t k + (lengthOf t + 1)
+      lines-fill : (t : RecordType) → 1 ≤ dateColumn t → offsetOf s t k ≤ i → i < offsetOf s t k + (lengthOf t + 1)
           → (ts : List RecordType) (j : ℕ) (buffer : List ℕ) → j < length ts → getD ts j Facility ≡ t → length buffer ≡ length whole
           → Right whole i P (withLines (hourly ts) buffer)
       unfolding hourLines hourRecord
       lines-fill t e l m [] j buffer h q long = absurd (omega arith)
       lines-fill t e l m (u ∷ ts) zero buffer h q long =
           let n = line-length t in
-          rw (q, e) (lines-keep ts _ (put-fills (own-hour t e) i buffer long l (omega arith)))
+          rw (q, keep-dated t e (hourly ts)) (lines-keep ts _ (put-fills (own-hour t e) i buffer long l (omega arith)))
       lines-fill t e l m (u ∷ ts) (suc j) buffer h q long = go (recordOf u .run) refl (λ b. lines-fill t e l m ts j b (omega arith) q)
         where
           go : (run : Run) → recordOf u .run ≡ run → ((b : List ℕ) → length b ≡ length whole → Right whole i P (withLines (hourly ts) b))
               → Right whole i P (withLines (keepHourly run u (hourly ts)) buffer)
           go Once f more = more buffer long
-          go Hourly f more = more _ (put-keeps (own-hour u f) (unknown i long) .long)
+          go Hourly f more = more _ (put-keeps (own-hour u (hourly-dated u f)) (unknown i long) .long)
+          go Listed f more = more _ (put-keeps (own-hour u (listed-dated u f)) (unknown i long) .long)
 
-      hour-fills : (t : RecordType) → recordOf t .run ≡ Hourly → offsetOf s t k ≤ i → i < offsetOf s t k + (lengthOf t + 1)
+      hour-fills : (t : RecordType) → 1 ≤ dateColumn t → offsetOf s t k ≤ i → i < offsetOf s t k + (lengthOf t + 1)
           → (buffer : List ℕ) → length buffer ≡ length whole → Right whole i P (withLines (hourly order) buffer)
       hour-fills t e l m buffer long = lines-fill t e l m order (rankOf t) buffer (in-order t .0) (in-order t .1) long
 
@@ -129,7 +137,7 @@ module _ (year quarter : ℕ) (name : List ℕ) (named : length name ≡ stackWi
   hours-keep i k (h ∷ hs) buffer e r =
       hours-keep i (suc k) hs (withLines k h hs e (hourly order) buffer) (rw (← add-one k) (drop-next hours k h hs e)) (lines-keep k h hs e i order buffer r)
 
-  hours-fill : {P : Type 0} (i : ℕ) (t : RecordType) → recordOf t .run ≡ Hourly → (k : ℕ) (hs : List ReportHour) (buffer : List ℕ) → drop k hours ≡ hs
+  hours-fill : {P : Type 0} (i : ℕ) (t : RecordType) → 1 ≤ dateColumn t → (k : ℕ) (hs : List ReportHour) (buffer : List ℕ) → drop k hours ≡ hs
       → offsetOf s t k ≤ i → i < offsetOf s t (s .hours) → length buffer ≡ length whole → Right whole i P (withHours k hs buffer)
   unfolding hoursLines
   hours-fill i t f k [] buffer e l m long =
@@ -177,12 +185,12 @@ module _ (year quarter : ℕ) (name : List ℕ) (named : length name ≡ stackWi
       kept : {P : Type 0} → Right whole i P withFacility → Right whole i P withAll
       kept r = put-keeps own-totals (hours-keep i 0 hours withFacility refl r)
 
-      in-type : (t : RecordType) (run : Run) → recordOf t .run ≡ run → frontOf s t .bytes ≤ i → i < frontOf s t .bytes + bytesOf s t
+      in-type : (t : RecordType) → (recordOf t .run ≡ Once) ⊎ (1 ≤ dateColumn t) → frontOf s t .bytes ≤ i → i < frontOf s t .bytes + bytesOf s t
           → Right whole i (Unit {0}) withAll
-      in-type t Hourly e l m =
+      in-type t (inr d) l m =
           put-keeps own-totals
-          (hours-fill i t e 0 hours withFacility refl (omega arith) (rw e at m) (put-keeps own-facility (unknown i long) .long))
-      in-type t Once e l m = go′ (once-type t e)
+          (hours-fill i t d 0 hours withFacility refl (omega arith) (rw (dated-hours t d) at m) (put-keeps own-facility (unknown i long) .long))
+      in-type t (inl e) l m = go′ (once-type t e)
         where
           go′ : (t ≡ Facility) ⊎ (t ≡ QuarterTotals) → Right whole i (Unit {0}) withAll
           go′ (inl q) =
@@ -197,7 +205,7 @@ module _ (year quarter : ℕ) (name : List ℕ) (named : length name ≡ stackWi
               (omega (arith, ended-length totals (totals-length name named (quarterTotals (recordedHours hours)))))
 
       go : Dec (i < reportLength s) → Right whole i (Unit {0}) withAll
-      go (yes h) = let r = in-run s i h in in-type (r .type) (recordOf (r .type) .run) refl (r .from) (r .below)
+      go (yes h) = let r = in-run s i h in in-type (r .type) (once-or-dated (r .type)) (r .from) (r .below)
       go (no h) =
           let e = text-long in
           kept (put-keeps own-facility (record { long = long; byte = λ p. sym (put-behind 1 text before (omega arith) i (omega arith)) }))

@@ -99,4 +99,4 @@ pub still-fits : {year quarter : ℕ} {name sheet buffer buffer′ : List ℕ} �
 still-fits f e = record { writable = f .writable; named = f .named; room = omega (arith, f .room) }
 
 pub hour-still-fits : {s : Shape} {k : ℕ} {name buffer buffer′ : List ℕ} → HourFits s k name buffer → length buffer′ ≡ length buffer → HourFits s k name buffer′
-hour-still-fits f e = record { rank = f .rank; held = f .held; named = f .named; room = omega (arith, f .room) }
+hour-still-fits f e = record { rank = f .rank; listed = f .listed; held = f .held; named = f .named; room = omega (arith, f .room) }

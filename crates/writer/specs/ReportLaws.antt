@@ -11,16 +11,16 @@ use lib.ListN.{length, drop, getD, length-append, length-map}
 use lib.Seq.{drop-append-le, drop-append-add, drop-drop, drop-cons}
 use Rattle.exact.specs.Logic.{All}
 use Rattle.columns.specs.Bytes.{all, isPrintable}
-use Rattle.layout.specs.Layout.{recordOf, order, later, lengthOf, stackWidth, countOf, linesOf, bytesOf, frontOf, offsetOf, reportLength}
+use Rattle.layout.specs.Layout.{recordOf, order, later, lengthOf, dateColumn, stackWidth, shape, countOf, linesOf, bytesOf, frontOf, offsetOf, reportLength}
 use Rattle.layout.specs.PlaceLaws.{joinedRuns, run-place}
-use Rattle.layout.specs.RunLaws.{once-type, runs-length}
+use Rattle.layout.specs.RunLaws.{once-type, once-undated, hourly-dated, listed-dated, runs-length}
 use Rattle.totals.specs.Totals.{quarterTotals}
 use Rattle.layout.specs.declared.Run.{Run}
-use Rattle.layout.specs.declared.Run.the-variants.{Once, Hourly}
+use Rattle.layout.specs.declared.Run.the-variants.{Once, Hourly, Listed}
 use Rattle.layout.specs.declared.RecordType.{RecordType}
 use Rattle.layout.specs.declared.RecordType.the-variants.{Facility, QuarterTotals}
 use Rattle.layout.specs.declared.Shape.{Shape}
-use Rattle.sheet.specs.Sheet.{sheetHourCount, sheetHours}
+use Rattle.sheet.specs.Sheet.{sheetHourCount, shapeOf, sheetHours}
 use Rattle.sheet.specs.SheetLaws.{sheet-hours-count}
 use Rattle.writer.specs.Recorded.{ReportHour, recordedHours, reportHour, reportHours}
 use Rattle.records.specs.Records.{ended, facilityRecord, totalsRecord}
@@ -31,6 +31,10 @@ use Rattle.writer.specs.LineLaws.{hour-length, hour-printable}
 -- a sheet's hours
 pub report-hours-count : (sheet : List ℕ) → length (reportHours (sheetHours sheet)) ≡ sheetHourCount sheet
 report-hours-count sheet = length-map (sheetHours sheet) reportHour ∙ sheet-hours-count sheet
+
+-- and its shape
+pub report-shape : (sheet : List ℕ) → shapeOf sheet ≡ shape (length (reportHours (sheetHours sheet)))
+report-shape sheet = ap shape (sym (report-hours-count sheet))
 
 pub ended-length : (line : List ℕ) {n : ℕ} → length line ≡ n → length (ended line) ≡ n + 1
 ended-length line e = length-append line (10 ∷ []) ∙ omega arith
@@ -57,7 +61,7 @@ module _ (year quarter : ℕ) (name : List ℕ) (hours : List ReportHour) where
   -- what holds of line 100, of line 301 and of the hours' records holds of every record
   pub records-each : (P : RecordType → List ℕ → Type 0) → P Facility (facilityRecord year quarter name)
       → P QuarterTotals (totalsRecord name (quarterTotals (recordedHours hours)))
-      → ((t : RecordType) → recordOf t .run ≡ Hourly → (h : ReportHour) → P t (hourRecord year quarter name t h))
+      → ((t : RecordType) → 1 ≤ dateColumn t → (h : ReportHour) → P t (hourRecord year quarter name t h))
       → (t : RecordType) → All (P t) (writtenRecords year quarter name hours t)
   unfolding writtenRecords
   records-each P first totals each t = go (recordOf t .run) refl
@@ -66,23 +70,30 @@ module _ (year quarter : ℕ) (name : List ℕ) (hours : List ReportHour) where
       one (inl e) = rw e first
       one (inr e) = rw e totals
 
-      ofHours : recordOf t .run ≡ Hourly → (hs : List ReportHour) → All (P t) (map (hourRecord year quarter name t) hs)
+      ofHours : 1 ≤ dateColumn t → (hs : List ReportHour) → All (P t) (map (hourRecord year quarter name t) hs)
       ofHours e [] = tt
       ofHours e (h ∷ hs) = (each t e h, ofHours e hs)
 
       go : (run : Run) → recordOf t .run ≡ run
           → All (P t) (runRecords run (onceRecord year quarter name hours t) (map (hourRecord year quarter name t) hours))
       go Once e = (one (once-type t e), tt)
-      go Hourly e = ofHours e hours
+      go Hourly e = ofHours (hourly-dated t e) hours
+      go Listed e = ofHours (listed-dated t e) hours
 
   pub records-printable : all isPrintable name ≡ true → (t : RecordType) → All (λ r. all isPrintable r ≡ true) (writtenRecords year quarter name hours t)
   records-printable p t =
       records-each (λ t r. all isPrintable r ≡ true) (facility-printable name p year quarter) (totals-printable name p _)
       (λ t e h. hour-printable name p year quarter t h) t
 
-  pub hour-records : (t : RecordType) → recordOf t .run ≡ Hourly → writtenRecords year quarter name hours t ≡ map (hourRecord year quarter name t) hours
+  pub hour-records : (t : RecordType) → 1 ≤ dateColumn t → writtenRecords year quarter name hours t ≡ map (hourRecord year quarter name t) hours
   unfolding writtenRecords
-  hour-records t e = rw e
+  hour-records t d = go (recordOf t .run) refl
+    where
+      go : (run : Run) → recordOf t .run ≡ run →
+          runRecords run (onceRecord year quarter name hours t) (map (hourRecord year quarter name t) hours) ≡ map (hourRecord year quarter name t) hours
+      go Once e = absurd (omega (arith, once-undated t e))
+      go Hourly e = refl
+      go Listed e = refl
 
   module _ (named : length name ≡ stackWidth) where
     pub records-length : (t : RecordType) → All (λ r. length r ≡ lengthOf t) (writtenRecords year quarter name hours t)
@@ -91,14 +102,15 @@ module _ (year quarter : ℕ) (name : List ℕ) (hours : List ReportHour) where
         (λ t e h. hour-length name named year quarter t h) t
 
     -- in a report of a shape
-    module _ (s : Shape) (count : length hours ≡ s .hours) where
+    module _ (s : Shape) (own : s ≡ shape (length hours)) where
       pub records-count : (t : RecordType) → length (writtenRecords year quarter name hours t) ≡ countOf s t
       unfolding writtenRecords
       records-count t = go (recordOf t .run)
         where
           go : (run : Run) → length (runRecords run (onceRecord year quarter name hours t) (map (hourRecord year quarter name t) hours)) ≡ linesOf run s
           go Once = refl
-          go Hourly = length-map hours (hourRecord year quarter name t) ∙ count
+          go Hourly = length-map hours (hourRecord year quarter name t) ∙ ap (λ (s : Shape). s .hours) (sym own)
+          go Listed = length-map hours (hourRecord year quarter name t) ∙ ap (λ (s : Shape). s .operations) (sym own)
 
       pub run-length : (t : RecordType) → length (lined (writtenRecords year quarter name hours t)) ≡ bytesOf s t
       run-length t =

@@ -9,7 +9,7 @@ use Rattle.layout.specs.PlaceLaws.{joinedRuns}
 use Rattle.stamp.specs.Stamp.{stampOf}
 use Rattle.totals.specs.Totals.{quarterTotals}
 use Rattle.layout.specs.declared.Run.{Run}
-use Rattle.layout.specs.declared.Run.the-variants.{Once, Hourly}
+use Rattle.layout.specs.declared.Run.the-variants.{Once, Hourly, Listed}
 use Rattle.layout.specs.declared.RecordType.{RecordType}
 use Rattle.layout.specs.declared.RecordType.the-variants.{Facility}
 use Rattle.sheet.specs.Sheet.{shapeOf, sheetHours}
@@ -27,10 +27,11 @@ abbrev pub onceRecord : ℕ → ℕ → List ℕ → List ReportHour → RecordT
 onceRecord year quarter name hours t =
     cond (eqb (codeOf t) (codeOf Facility)) (facilityRecord year quarter name) (totalsRecord name (quarterTotals (recordedHours hours)))
 
--- the records of a run: the one of its type, or those of the hours
+-- the records of a run: the one of its type, or those of the operating hours; no other hour is listed
 abbrev pub runRecords : Run → List ℕ → List (List ℕ) → List (List ℕ)
 runRecords Once one ofHours = one ∷ []
 runRecords Hourly one ofHours = ofHours
+runRecords Listed one ofHours = ofHours
 
 -- the records of a type in a report
 unfoldable pub writtenRecords : ℕ → ℕ → List ℕ → List ReportHour → RecordType → List (List ℕ)

@@ -156,7 +156,7 @@ pub const HOUR_WORDS: usize = 6;
 /// The readings of an hour from a recorder.
 pub const RECORDER_READINGS: usize = 4;
 
-/// The bytes of a report of so many operating hours.
+/// The bytes of a report of so many operating hours and no idle ones. No accepted report has more than that of [`MOST_HOURS`].
 pub const fn report_length(hours: usize) -> usize {
     64 + 318 * hours
 }
@@ -187,8 +187,8 @@ pub const fn word(kind: Kind, value: u32) -> u32 {
     (kind as u32) << VALUE_BITS | at_most(MOST_VALUE, value)
 }
 
-/// The word of an hour of the quarter with its operating time in hundredths of an hour. An hour or a time too large for its bits becomes
-/// the largest, which the writer refuses.
+/// The word of an hour of the quarter with its operating time in hundredths of an hour, 1 to 100: idle hours have no words. An hour or a
+/// time too large for its bits becomes the largest, which the writer refuses.
 pub const fn hour_word(hour: u32, time: u32) -> u32 {
     word(Kind::Hour, at_most(MOST_VALUE >> 7, hour) * 128 + at_most(127, time))
 }
@@ -215,7 +215,7 @@ pub const fn meaning(number: u64) -> &'static str {
         4 => "the line has a byte that is not printable ASCII",
         5 => "the stack name is blank (line 100) or unlike that of line 100",
         6 => "year, quarter, date or hour is not digits, no real date, outside the quarter, or not later than the one before",
-        7 => "date and hour differ from the 200 line of the same rank",
+        7 => "date and hour differ from the 200 line of the same rank, or no 200 line has that rank",
         8 => "a value is not in its format",
         9 => "a value is outside its range",
         10 => "lines are missing at the end",
@@ -237,6 +237,7 @@ pub const fn meaning(number: u64) -> &'static str {
         44 => "a reading of the recorder's hour is absent",
         45 => "a reading of the recorder's hour is negative or not finite",
         46 => "a reading of the recorder's hour, once rounded, is outside its range or its columns",
+        47 => "the time is 0.00 and the heat input is not blank",
         _ => "no refusal has this number",
     }
 }

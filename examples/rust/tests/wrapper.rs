@@ -1,6 +1,6 @@
-//! The wrapper's refusals are those of README.md and of include/edr.h; words too large for a sheet are refused, and flows that are not
-//! whole thousands; quarters join in order and within their limits; a recorder's readings are rounded by their exact values, and refused
-//! reading by reading; README.md shows what the examples of the year to date and of a recorder's hour print.
+//! The wrapper's refusals are those of README.md and of include/edr.h; words too large for a sheet are refused, times of 0, and flows
+//! that are not whole thousands; quarters join in order and within their limits; a recorder's readings are rounded by their exact values,
+//! and refused reading by reading; README.md shows what the examples of the year to date and of a recorder's hour print.
 
 use std::collections::BTreeMap;
 
@@ -52,6 +52,7 @@ fn words_out_of_range_are_refused() {
     ];
     assert_eq!(written(sheet), Written::Length(382));
     let out_of_range = [
+        (0, hour_word(0, 0), 32),
         (0, hour_word(0, 128 + 50), 32),
         (0, hour_word(1 << 25, 50), 31),
         (0, word(Kind::Hour, u32::MAX), 31),

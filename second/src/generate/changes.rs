@@ -20,14 +20,14 @@ pub const CHANGES: [Change; 7] =
 fn line_with_values(random: &mut Random, page: &Page) -> usize {
     let place = random.below(9);
     if place == 8 || page.hours == 0 {
-        totals_line(page.hours) - 1
+        page.totals()
     } else {
         page.index(place, random.below(page.hours))
     }
 }
 
 /// Text of this width that is not in the format F.d or I, or only just is.
-fn bad_text(random: &mut Random, turn: usize, width: usize, decimals: usize) -> Vec<u8> {
+pub fn bad_text(random: &mut Random, turn: usize, width: usize, decimals: usize) -> Vec<u8> {
     let digit = |random: &mut Random| char::from(b'0' + random.below(10) as u8);
     let whole = digit(random);
     let fraction: String = (0..decimals).map(|_| digit(random)).collect();
@@ -112,7 +112,7 @@ pub fn bad_head(random: &mut Random, turn: usize, page: &mut Page) {
 
 /// A date text made wrong in one of many ways; `other` is another date of the
 /// same page.
-fn wrong_date(random: &mut Random, turn: usize, date: &[u8], other: &[u8], year: u32) -> Vec<u8> {
+pub fn wrong_date(random: &mut Random, turn: usize, date: &[u8], other: &[u8], year: u32) -> Vec<u8> {
     let mut text = date.to_vec();
     let month = |text: &mut Vec<u8>, mm: &[u8]| text[2..4].copy_from_slice(mm);
     let day = |text: &mut Vec<u8>, dd: &[u8]| text[4..6].copy_from_slice(dd);
@@ -251,7 +251,7 @@ fn range_on(_: &mut Random, index: usize, page: &mut Page) {
     }
 }
 
-fn date_on(random: &mut Random, index: usize, page: &mut Page) {
+pub fn date_on(random: &mut Random, index: usize, page: &mut Page) {
     match page.record(index).date {
         Some(columns) => page.set(index, columns, random.pick(&[b"00000000", b"        ", b"99123123"])),
         None if index == 0 => {
@@ -262,12 +262,12 @@ fn date_on(random: &mut Random, index: usize, page: &mut Page) {
     }
 }
 
-fn name_on(random: &mut Random, index: usize, page: &mut Page) {
+pub fn name_on(random: &mut Random, index: usize, page: &mut Page) {
     let name = if index == 0 { b"      " } else { random.pick(&[b"      ", b"OTHER1", b"stk1  "]) };
     page.set(index, NAME, name);
 }
 
-fn byte_on(random: &mut Random, index: usize, page: &mut Page) {
+pub fn byte_on(random: &mut Random, index: usize, page: &mut Page) {
     let length = page.lines[index].len();
     if length > 3 {
         page.lines[index][3 + random.below(length - 3)] = random.pick(&ODD_BYTES);
@@ -278,7 +278,7 @@ fn type_on(random: &mut Random, index: usize, page: &mut Page) {
     page.set(index, Columns(1, 3), random.pick(&[b"101", b"203", b"   ", b"340"]));
 }
 
-fn length_on(random: &mut Random, index: usize, page: &mut Page) {
+pub fn length_on(random: &mut Random, index: usize, page: &mut Page) {
     if random.once_in(2) {
         page.lines[index].push(random.pick(b" \r0"));
     } else {

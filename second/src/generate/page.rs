@@ -2,6 +2,10 @@
 
 use crate::layout::*;
 use crate::random::Random;
+use std::ops::Range;
+
+/// All record types.
+const RECORDS: &[Record] = &[R100, R200, R201, R202, R220, R300, R301, R310, R320, R330];
 
 /// The lines of a report without their ends. `hours` is the number of
 /// operating hours before anything was changed.
@@ -9,16 +13,30 @@ use crate::random::Random;
 pub struct Page {
     pub lines: Vec<Vec<u8>>,
     pub hours: usize,
+    /// The record type of each line of the unchanged page.
+    records: Vec<&'static Record>,
+    /// The lines of the operating hours on the unchanged page, for each block of
+    /// `HOURLY`.
+    operating: [Vec<usize>; 8],
+}
+
+/// Whether a line is that of an idle hour, in a sound report.
+pub fn is_idle(line: &[u8]) -> bool {
+    line.starts_with(R300.kind) && TIME.columns.of(line) == b"0.00"
 }
 
 impl Page {
     /// The page of a sound report.
     pub fn of(bytes: &[u8]) -> Self {
         let text = &bytes[..bytes.len() - 1];
-        Page {
-            lines: text.split(|&byte| byte == b'\n').map(<[u8]>::to_vec).collect(),
-            hours: (bytes.len() - 64) / 318,
-        }
+        let lines: Vec<Vec<u8>> = text.split(|&byte| byte == b'\n').map(<[u8]>::to_vec).collect();
+        let record_of = |line: &[u8]| RECORDS.iter().find(|record| line.starts_with(record.kind));
+        let records = lines.iter().map(|line| record_of(line).expect("a line of a report")).collect();
+        let operating = HOURLY.map(|record| -> Vec<usize> {
+            let belongs = |line: &[u8]| line.starts_with(record.kind) && !is_idle(line);
+            (0..lines.len()).filter(|&index| belongs(&lines[index])).collect()
+        });
+        Page { hours: operating[0].len(), lines, records, operating }
     }
 
     /// The lines with their ends.
@@ -31,25 +49,26 @@ impl Page {
         bytes
     }
 
-    /// The index of an hour's line in a block of `HOURLY`.
+    /// The index of an operating hour's line in a block of `HOURLY`.
     pub fn index(&self, block: usize, rank: usize) -> usize {
-        line_of(block, self.hours, rank) - 1
+        self.operating[block][rank]
+    }
+
+    /// The index of line 301.
+    pub fn totals(&self) -> usize {
+        self.indices(&R301).start
+    }
+
+    /// The indices of the lines of one record type.
+    pub fn indices(&self, record: &Record) -> Range<usize> {
+        let start = self.records.partition_point(|other| other.kind < record.kind);
+        let end = self.records.partition_point(|other| other.kind <= record.kind);
+        start..end
     }
 
     /// The record type that belongs at an index of the unchanged page.
     pub fn record(&self, index: usize) -> &'static Record {
-        let totals = totals_line(self.hours) - 1;
-        if index == 0 {
-            &R100
-        } else if index < totals {
-            &HOURLY[(index - 1) / self.hours]
-        } else if index == totals {
-            &R301
-        } else if index - totals <= 3 * self.hours {
-            &HOURLY[5 + (index - totals - 1) / self.hours]
-        } else {
-            &R330
-        }
+        self.records.get(index).copied().unwrap_or(&R330)
     }
 
     /// Puts text into columns; does nothing where the line does not reach.

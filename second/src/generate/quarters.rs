@@ -4,16 +4,18 @@
 use super::changes::{self, CHANGES};
 use super::edges::set_at_edge;
 use super::flows;
+use super::idle_hours;
 use super::page::{two_below, Page};
 use super::recorder::{column_limits, honest_figures};
 use super::sheets::{order, order_in, words_of};
 use crate::calendar::{eight_digits, hours_in_quarter, moment_of};
 use crate::cases::Case;
 use crate::figures::{Readings, FIGURES};
-use crate::layout::{report_length, totals_line, DATE_200, HOURLY, R100, R200};
+use crate::layout::{report_length, DATE_200, HOURLY, R100, R200};
 use crate::random::Random;
 use crate::report::{Hour, PlainPen, Report};
 use crate::write::{hour_of, report_of, Order, WORDS};
+use std::ops::Range;
 
 /// More changes than this are not made at once.
 const MOST_EDITS: usize = 1_500;
@@ -50,24 +52,31 @@ pub fn full(random: &mut Random, number: usize) -> Vec<Case> {
         // The largest report of all, one byte too many for its room.
         cases.push(Case::Write { order: order.clone(), room: report_length(hours) - 1 });
     }
-    cases.extend(written(random, order, (number * 7..number * 7 + 14).chain([ONE_MORE, UNEVEN])));
+    let steps = (number * 7..number * 7 + 14).chain([ONE_MORE, UNEVEN]);
+    cases.extend(written(random, order, steps, number * 3..number * 3 + 3));
     cases
 }
 
 /// About as many hours as 65,536 bytes hold, and changes.
 pub fn middle(random: &mut Random, number: usize) -> Vec<Case> {
     let order = order(random, 205 + number % 2);
-    written(random, order, number * 9..number * 9 + 10)
+    written(random, order, number * 9..number * 9 + 10, number * 2..number * 2 + 2)
 }
 
 /// A few hours, and changes.
 pub fn small(random: &mut Random, number: usize) -> Vec<Case> {
     let order = order(random, 1 + number % 9);
-    written(random, order, number * 5..number * 5 + 5)
+    written(random, order, number * 5..number * 5 + 5, number * 2..number * 2 + 2)
 }
 
-/// The order written, and these steps of change to its report.
-fn written(random: &mut Random, order: Order, steps: impl Iterator<Item = usize>) -> Vec<Case> {
+/// The order written, these steps of change to its report, and then turns in
+/// which lines of it are made idle.
+fn written(
+    random: &mut Random,
+    order: Order,
+    steps: impl Iterator<Item = usize>,
+    idle_turns: Range<usize>,
+) -> Vec<Case> {
     let hours = order.words.chunks(WORDS).map(hour_of).collect();
     let report = report_of(&order, hours);
     let room = report_length(report.hours.len()) + random.pick(&[0, 0, 1, 77]);
@@ -75,17 +84,30 @@ fn written(random: &mut Random, order: Order, steps: impl Iterator<Item = usize>
     let mut now = report.bytes(&mut PlainPen);
     for step in steps {
         let next = changed(random, step, &report);
-        if next.len() != now.len() {
-            continue;
-        }
-        let edits: Vec<(usize, u8)> =
-            (0..now.len()).filter(|&i| now[i] != next[i]).map(|i| (i, next[i])).collect();
-        if edits.len() <= MOST_EDITS {
-            cases.push(Case::Patch(edits));
-            now = next;
-        }
+        cases.extend(patch(&mut now, next));
+    }
+    for turn in idle_turns {
+        let rank = any_rank(random, &report);
+        let page = Page::of(&report.bytes(&mut PlainPen));
+        let next = idle_hours::emptied(random, turn, page, rank);
+        cases.extend(patch(&mut now, next));
     }
     cases
+}
+
+/// The changes that make one report of another, unless they are too many or the
+/// lengths differ.
+fn patch(now: &mut Vec<u8>, next: Vec<u8>) -> Option<Case> {
+    if next.len() != now.len() {
+        return None;
+    }
+    let edits: Vec<(usize, u8)> =
+        (0..now.len()).filter(|&i| now[i] != next[i]).map(|i| (i, next[i])).collect();
+    if edits.len() > MOST_EDITS {
+        return None;
+    }
+    *now = next;
+    Some(Case::Patch(edits))
 }
 
 /// Any hour, the first and last ones more often.
@@ -238,7 +260,10 @@ fn swapped(random: &mut Random, report: &Report) -> Vec<u8> {
             let (a, b) = (page.index(block, a), page.index(block, b));
             page.lines.swap(a, b);
         }
-        None => page.lines.swap(0, totals_line(report.hours.len()) - 1),
+        None => {
+            let totals = page.totals();
+            page.lines.swap(0, totals);
+        }
     }
     page.bytes()
 }

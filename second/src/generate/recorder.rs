@@ -200,7 +200,7 @@ pub fn report_in(random: &mut Random, year: u32, quarter: u32, count: usize) -> 
             hour_with(random, hour, readings)
         })
         .collect();
-    let mut report = Report { year, quarter, name: name(random), hours, totals: [0; 4] };
+    let mut report = Report { year, quarter, name: name(random), hours, ..Report::default() };
     report.add_up();
     report
 }

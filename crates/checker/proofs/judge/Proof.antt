@@ -6,30 +6,36 @@ use mathlib.Core.List.{List}
 use mathlib.Core.Logic.{⊎-elim}
 use native.Mathlib.Omega.{arith}
 use borrow.Author.Tests.{not-true, not-false}
+use Rattle.layout.specs.declared.RecordType.the-variants.{Operation}
 use Rattle.layout.specs.declared.Shape.{Shape}
 use Rattle.formulas.specs.Hour.{HourWithin}
 use Rattle.formulas.specs.Formulas.{passesTest}
 use Rattle.totals.specs.declared.Totals.{Totals}
+use Rattle.reading.specs.Places.{Stands}
+use Rattle.reading.specs.Places.{operatingPlace}
+use Rattle.reading.specs.RankLaws.{ahead-first, ahead-some, ahead-stands}
+use Rattle.recorded.specs.ListedHours.{listedHour}
+use Rattle.recorded.specs.declared.ListedHour.{ListedHour}
 use Rattle.reading.specs.declared.Refusal.{Refusal}
 use Rattle.checker.specs.Checked.{quantityAt}
 use Rattle.checker.specs.Judging.{Judgeable}
 use Rattle.checker.specs.declared.Answer.the-variants.{Refused}
-use Rattle.checker.proofs.Pass.{figure-line, left-first, left-hour, figure-passed, figure-failed, totals-first}
+use Rattle.checker.proofs.Pass.{figure-line, place-most, left-first, left-hour, figure-passed, figure-failed, totals-first}
 use Rattle.checker.proofs.Pass.{pass-next, pass-end, HourPass, FigurePass}
 use Rattle.checker.proofs.judge.Statement.{statement}
 use Rattle.checker.proofs.judge.Tie as tie
 
 abbrev Inv-loop : tie.InvT-loop
-Inv-loop file s hours totals k hour j₀ j = FigurePass file s k hour j
+Inv-loop file s hours totals k from at hour j₀ j = FigurePass file s k hour j
 
 abbrev μ-loop : tie.MeasureT-loop
-μ-loop file s hours totals k hour j₀ j = 4 - j
+μ-loop file s hours totals k from at hour j₀ j = 4 - j
 
 abbrev Inv-hours : tie.InvT-hours
-Inv-hours file s hours totals₀ k₀ totals k = HourPass file s totals k
+Inv-hours file s hours totals₀ k₀ from₀ totals k from = HourPass file s totals k from
 
 abbrev μ-hours : tie.MeasureT-hours
-μ-hours file s hours totals₀ k₀ totals k = s .hours - k
+μ-hours file s hours totals₀ k₀ from₀ totals k from = s .hours - k
 
 abbrev Hours : Type 0
 Hours = tie.At-hours Inv-loop μ-loop Inv-hours μ-hours
@@ -48,12 +54,33 @@ module _ (c : Hours) where
   abbrev judgeable : Judgeable file shape
   judgeable = start c .pre
 
--- an hour was read
+-- the place of its 300 line was found, and the hour was read
+abbrev next : tie.After-operating-from Inv-loop μ-loop Inv-hours μ-hours → Hours
+next c = c .before .before
+
+abbrev placed : tie.After-hour Inv-loop μ-loop Inv-hours μ-hours → tie.After-operating-from Inv-loop μ-loop Inv-hours μ-hours
+placed c = c .before
+
 abbrev standing : tie.After-hour Inv-loop μ-loop Inv-hours μ-hours → Hours
-standing c = c .before .before
+standing c = next (placed c)
+
+more : (c : tie.After-operating-from Inv-loop μ-loop Inv-hours μ-hours) → next c .hours .k < shape (next c) .hours
+more c = let p = next c .hours .inv .few in omega (arith, c .before .if1 .left)
+
+abbrev placeOf : tie.After-operating-from Inv-loop μ-loop Inv-hours μ-hours → ℕ
+placeOf c = c .operating-from .result .place
+
+there : (c : tie.After-operating-from Inv-loop μ-loop Inv-hours μ-hours) →
+    placeOf c ≡ operatingPlace (file (next c)) (shape (next c)) (next c .hours .from)
+there c = ap (λ (at : ListedHour). at .place) (c .operating-from .ensures)
+
+stands : (c : tie.After-operating-from Inv-loop μ-loop Inv-hours μ-hours) → Stands (file (next c)) (shape (next c)) Operation (next c .hours .k) (placeOf c)
+stands c =
+    let o = next c in
+    ahead-stands (file o) (shape o) (judgeable o .standing) (o .hours .k) (o .hours .from) (o .hours .inv .ahead) (more c) (placeOf c) (there c)
 
 below : (c : tie.After-hour Inv-loop μ-loop Inv-hours μ-hours) → standing c .hours .k < shape (standing c) .hours
-below c = let p = standing c .hours .inv .few in omega (arith, c .before .if1 .left)
+below c = more (placed c)
 
 within : (c : tie.After-hour Inv-loop μ-loop Inv-hours μ-hours) → HourWithin (c .hour .result)
 within c = rw (c .hour .ensures) (judgeable (standing c) .within (standing c .hours .k) (below c))
@@ -82,16 +109,23 @@ hours-holds c =
     let d = x .pre .standing in
     record {
       few = omega arith;
+      ahead = ahead-first (x .args .file .now) (x .args .s) d;
       room = c .none .ensures .1;
       count = ap (λ (t : Totals). t .hours) e;
       sums = rw e (totals-first (x .args .file .now) (x .args .s) d);
       rest = left-first (x .args .file .now) (x .args .s) d;
     }
 
+operating-from-requires : tie.Need-operating-from-requires Inv-loop μ-loop Inv-hours μ-hours
+operating-from-requires c κs =
+    let o = c .before in
+    let d = judgeable o .standing in
+    (d, ahead-some (file o) (shape o) d (o .hours .k) (o .hours .from) (o .hours .inv .ahead) (omega (arith, o .hours .inv .few, c .if1 .left)))
+
 hour-requires : tie.Need-hour-requires Inv-loop μ-loop Inv-hours μ-hours
 hour-requires c κs =
-    let p = c .before .hours .inv .few in
-    (judgeable (c .before) .standing, omega (arith, c .if1 .left))
+    let o = next c in
+    (judgeable o .standing, more c, stands c, c .operating-from .ensures ∙ ap (listedHour (file o) (shape o)) (sym (there c)))
 
 loop-holds : tie.Need-loop-holds Inv-loop μ-loop Inv-hours μ-hours
 loop-holds c =
@@ -105,17 +139,25 @@ quantity-at-requires c κs = tt
 figure-passes-requires : tie.Need-figure-passes-requires Inv-loop μ-loop Inv-hours μ-hours
 figure-passes-requires c κs = within (hourOf (figure c))
 
-add-t15 : tie.Need-add-t15 Inv-loop μ-loop Inv-hours μ-hours
-add-t15 c = omega arith
+add-t17 : tie.Need-add-t17 Inv-loop μ-loop Inv-hours μ-hours
+add-t17 c = omega arith
 
 type-for-requires : tie.Need-type-for-requires Inv-loop μ-loop Inv-hours μ-hours
 type-for-requires c κs = tt
 
+place-for-requires : tie.Need-place-for-requires Inv-loop μ-loop Inv-hours μ-hours
+place-for-requires c κs = tt
+
 line-of-requires : tie.Need-line-of-requires Inv-loop μ-loop Inv-hours μ-hours
 line-of-requires c κs =
-    let h = hourOf (figure (passed (c .before .before))) in
-    let d = judgeable (standing h) .standing .held in
-    (d, omega (arith, below h, d .hours))
+    let a = passed (c .before .before .before) in
+    let h = hourOf (figure a) in
+    let o = standing h in
+    let d = judgeable o .standing in (
+      d .held,
+      rw (c .place-for .ensures)
+          (place-most (file o) (shape o) d (a .quantity-at .result) (o .hours .k) (placeOf (placed h)) (below h) (stands (placed h))),
+    )
 
 add-j : tie.Need-add-j Inv-loop μ-loop Inv-hours μ-hours
 add-j c = omega arith
@@ -149,20 +191,26 @@ with-hour-requires c κs =
 add-k : tie.Need-add-k Inv-loop μ-loop Inv-hours μ-hours
 add-k c = let h = hourOf (added c) in omega (arith, below h, judgeable (standing h) .standing .held .hours)
 
+add-from : tie.Need-add-from Inv-loop μ-loop Inv-hours μ-hours
+add-from c =
+    let h = hourOf (added (c .before)) in
+    omega (arith, stands (placed h) .inside, judgeable (standing h) .standing .held .operations)
+
 hours-less : tie.Need-hours-less Inv-loop μ-loop Inv-hours μ-hours
-hours-less c = omega (arith, below (hourOf (added c)))
+hours-less c = omega (arith, below (hourOf (added (c .before))))
 
 hours-again : tie.Need-hours-again Inv-loop μ-loop Inv-hours μ-hours
 hours-again c =
-    let l = added c in
+    let g = c .before in
+    let l = added g in
     let h = hourOf l in
     let o = standing h in
-    let t = c .with-hour in
-    pass-next (file o) (shape o) (o .hours .totals) (o .hours .k) (h .hour .result) (l .loop .j) (t .result) (o .hours .inv) (below h)
-    (h .hour .ensures) (t .ensures .0) (t .ensures .1) (l .loop .inv) (omega (arith, c .before .loop-test .left))
+    let t = g .with-hour in
+    pass-next (file o) (shape o) (judgeable o .standing) (o .hours .totals) (o .hours .k) (o .hours .from) _ (h .hour .result) (l .loop .j) (t .result)
+    (o .hours .inv) (below h) (there (placed h)) (h .hour .ensures) (t .ensures .0) (t .ensures .1) (l .loop .inv) (omega (arith, g .before .loop-test .left))
 
 -- the pass was left, and the totals were formed
-abbrev ended : tie.After-struct-known Inv-loop μ-loop Inv-hours μ-hours → Hours
+abbrev ended : tie.After-struct-known2 Inv-loop μ-loop Inv-hours μ-hours → Hours
 ended c = c .before .before
 
 abbrev clean : tie.After-line-of2 Inv-loop μ-loop Inv-hours μ-hours → tie.Else3 Inv-loop μ-loop Inv-hours μ-hours
@@ -181,14 +229,17 @@ returns c =
     ⊎-elim
     (λ x. absurd (c .if3 .taken (ap (λ (y : Refusal). y .number) (x .1))))
     (λ x.
-    let r = x .1 .result in
-    let l = x .2 in
+    let r = x .2 .result in
+    let l = x .3 in
     let b : h .k < shape o .hours = omega (arith, h .inv .few, x .0 .left) in
-    let p : passesTest (quantityAt (l .j)) r ≡ false = rw (x .4 .ensures) at (sym (x .5 .ensures .test) ∙ not-true (x .5 .result) (x .6 .taken)) in
+    let d = judgeable o .standing in
+    let own = ahead-stands (file o) (shape o) d (h .k) (h .from) (h .inv .ahead) b (x .1 .result .place)
+    (ap (λ (at : ListedHour). at .place) (x .1 .ensures)) in
+    let p : passesTest (quantityAt (l .j)) r ≡ false = rw (x .5 .ensures) at (sym (x .6 .ensures .test) ∙ not-true (x .6 .result) (x .7 .taken)) in
     let at : ℕ → Refusal = λ line. record { number = 11 + l .j; line = line } in
-    ap Refused (x .9 ∙ rw (x .8 .ensures, x .7 .ensures, x .4 .ensures)
-    (ap at (figure-line (file o) (shape o) (judgeable o .standing) (quantityAt (l .j)) (h .k) b)))
-    ∙ sym (figure-failed (file o) (shape o) (h .k) r (l .j) (x .3 .taken) p)
+    ap Refused (x .11 ∙ rw (x .10 .ensures, x .9 .ensures, x .8 .ensures, x .5 .ensures)
+    (ap at (figure-line (file o) (shape o) d (quantityAt (l .j)) (h .k) (x .1 .result .place) b own)))
+    ∙ sym (figure-failed (file o) (shape o) (h .k) r (l .j) (x .4 .taken) p)
     ∙ l .inv .rest)
     (c .before .before .if1 .came)
 
@@ -216,8 +267,8 @@ returns-2 c =
     ⊎-elim
     (λ x.
     c .compare .ensures
-    ∙ pass-end (file o) (shape o) (h .totals) (h .k) d (h .inv) (x .0 .taken) (n .line-of2 .ensures) (q .quarter .ensures) (t .totals .ensures))
-    (λ x. absurd (let y = ap (λ (y : Refusal). y .number) (x .9) in omega (arith, clean n .if3 .left)))
+    ∙ pass-end (file o) (shape o) (h .totals) (h .k) (h .from) d (h .inv) (x .0 .taken) (n .line-of2 .ensures) (q .quarter .ensures) (t .totals .ensures))
+    (λ x. absurd (let y = ap (λ (y : Refusal). y .number) (x .11) in omega (arith, clean n .if3 .left)))
     (g .before .if1 .came)
 
 pub judge-spec : {M : Type 1} → statement M
@@ -230,18 +281,21 @@ judge-spec =
     μ-hours
     none-requires
     hours-holds
+    operating-from-requires
     hour-requires
     loop-holds
     quantity-at-requires
     figure-passes-requires
-    add-t15
+    add-t17
     type-for-requires
+    place-for-requires
     line-of-requires
     add-j
     loop-less
     loop-again
     with-hour-requires
     add-k
+    add-from
     hours-less
     hours-again
     returns

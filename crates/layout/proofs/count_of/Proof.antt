@@ -21,11 +21,17 @@ enum-told c = c .match .keys1
 enum-told-2 : tie.Need-enum-told-2
 enum-told-2 c = c .match .keys2
 
+enum-told-3 : tie.Need-enum-told-3
+enum-told-3 c = c .match .keys3
+
 returns : tie.Need-returns
 returns c = let r = c .before .before in counted (r .before .args .s) (r .before .args .t) (r .row-of .ensures) (c .enum-told .given .1)
 
 returns-2 : tie.Need-returns-2
 returns-2 c = let r = c .before .before in counted (r .before .args .s) (r .before .args .t) (r .row-of .ensures) (c .enum-told2 .given .1)
 
+returns-3 : tie.Need-returns-3
+returns-3 c = let r = c .before .before in counted (r .before .args .s) (r .before .args .t) (r .row-of .ensures) (c .enum-told3 .given .1)
+
 pub count-of-spec : {M : Type 1} → statement M
-count-of-spec = tie.close (tie.spec row-of-requires enum-told enum-told-2 returns returns-2)
+count-of-spec = tie.close (tie.spec row-of-requires enum-told enum-told-2 enum-told-3 returns returns-2 returns-3)

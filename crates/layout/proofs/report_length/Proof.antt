@@ -13,7 +13,7 @@ returns : tie.Need-returns
 returns c =
     let s = c .before .args .s in
     let e = c .offset-of .ensures ∙ report-ends s in
-    (e, omega (arith, e, report-length s, c .before .pre .hours))
+    (e, omega (arith, e, report-length s, c .before .pre .hours, c .before .pre .operations))
 
 pub report-length-spec : {M : Type 1} → statement M
 report-length-spec = tie.close (tie.spec offset-of-requires returns)

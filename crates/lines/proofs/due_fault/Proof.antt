@@ -1,14 +1,16 @@
 -- A line that is due: what every line is tried for, its date and its values, in this order.
-use mathlib.Core.Path.{_≡_, sym, _∙_}
+use mathlib.Core.Path.{_≡_, sym, ap, ap₂, _∙_}
 use mathlib.Core.List.{List}
 use Prim.Native.Nat.{ℕ}
 use native.Mathlib.Omega.{arith}
 use lib.ListN.{length, take}
 use borrow.Author.Needs.{needs}
-use Rattle.layout.specs.Layout.{lengthOf}
+use Rattle.layout.specs.Layout.{lengthOf, dateColumn}
+use Rattle.layout.specs.LayoutLaws.{date-fits}
+use Rattle.layout.specs.declared.Row.{Row}
 use Rattle.layout.specs.declared.RecordType.{RecordType}
 use Rattle.lines.specs.Lines.{firstLine}
-use Rattle.lines.specs.LineFaults.{shapeFault, commonFault, dueFault}
+use Rattle.lines.specs.LineFaults.{shapeFault, commonFault, dateFault, dueFault}
 use Rattle.lines.specs.FaultLaws.{common-shape}
 use Rattle.lines.proofs.Chains.{first-of, second-of, third-of}
 use Rattle.lines.proofs.Shapes.{line-known, line-length}
@@ -19,14 +21,14 @@ use Rattle.lines.proofs.due_fault.Tie as tie
 abbrev start : tie.Else1 → tie.Start
 start c = c .before .before .before .before .before
 
-abbrev shaped : tie.After-line-length → tie.Else1
+abbrev shaped : tie.After-row-of → tie.Else1
 shaped c = c .before
 
-abbrev sized : tie.After-date-fault → tie.After-line-length
-sized c = c .before .before
+abbrev rowed : tie.After-date-fault → tie.After-row-of
+rowed c = c .before .before
 
 -- the line, once it has no fault that every line is tried for
-module _ (c : tie.After-line-length) where
+module _ (c : tie.After-row-of) where
   abbrev t : RecordType
   t = start (shaped c) .args .t
 
@@ -34,7 +36,7 @@ module _ (c : tie.After-line-length) where
   rest = start (shaped c) .args .rest .now
 
   abbrev line : List ℕ
-  line = take (c .line-length .result) rest
+  line = take (c .row-of .result .length) rest
 
   common : commonFault (start (shaped c) .args .facility .now) t (firstLine rest) ≡ 0
   common = sym (shaped c .before .common-fault .ensures) ∙ shaped c .if1 .left
@@ -42,11 +44,24 @@ module _ (c : tie.After-line-length) where
   fine : shapeFault t (firstLine rest) ≡ 0
   fine = common-shape _ t (firstLine rest) common
 
+  sized : c .row-of .result .length ≡ lengthOf t
+  sized = ap (λ (r : Row). r .length) (c .row-of .ensures)
+
+  dated : c .row-of .result .date ≡ dateColumn t
+  dated = ap (λ (r : Row). r .date) (c .row-of .ensures)
+
   known : firstLine rest ≡ line
-  known = line-known t rest fine (c .line-length .result) (c .line-length .ensures .0)
+  known = line-known t rest fine (c .row-of .result .length) sized
 
   long : length line ≡ lengthOf t
-  long = line-length t rest fine (c .line-length .result) (c .line-length .ensures .0)
+  long = line-length t rest fine (c .row-of .result .length) sized
+
+-- the fault of its date
+told : (c : tie.After-date-fault) →
+    let k = rowed c in c .date-fault .result ≡ dateFault (dateColumn (t k)) (start (shaped k) .args .date .now) (firstLine (rest k))
+told c =
+    let k = rowed c in
+    c .date-fault .ensures ∙ ap₂ (λ (column : ℕ) (l : List ℕ). dateFault column (start (shaped k) .args .date .now) l) (dated k) (sym (known k))
 
 common-fault-requires : tie.Need-common-fault-requires
 common-fault-requires c κs = search needs
@@ -55,31 +70,30 @@ returns : tie.Need-returns
 unfolding dueFault
 returns c = first-of _ _ _ (c .before .common-fault .ensures) (λ e. omega arith)
 
-line-length-requires : tie.Need-line-length-requires
-line-length-requires c κs = search needs
+row-of-requires : tie.Need-row-of-requires
+row-of-requires c κs = search needs
 
 slice-aggregate-line : tie.Need-slice-aggregate-line
-slice-aggregate-line c = c .before .line-length .ensures .0 ∙ sym (long (c .before))
+slice-aggregate-line c = sized (c .before) ∙ sym (long (c .before))
 
 date-fault-requires : tie.Need-date-fault-requires
-date-fault-requires c κs = long (c .before)
+date-fault-requires c κs = let k = c .before in omega (arith, long k, dated k, date-fits (t k))
 
 returns-2 : tie.Need-returns-2
 unfolding dueFault
 returns-2 c =
     let d = c .before in
-    second-of _ _ _ _ (common (sized d)) (rw (← known (sized d)) at (d .date-fault .ensures)) (λ e. omega arith)
+    second-of _ _ _ _ (common (rowed d)) (told d) (λ e. omega arith)
 
 values-fault-requires : tie.Need-values-fault-requires
-values-fault-requires c κs = long (sized (c .before))
+values-fault-requires c κs = long (rowed (c .before))
 
 returns-3 : tie.Need-returns-3
 unfolding dueFault
 returns-3 c =
     let d = c .before .before in
-    let k = sized d in
-    let e = rw (← known k) at (d .date-fault .ensures) in
-    third-of _ _ _ _ (common k) (sym e ∙ c .before .if2 .left) (rw (← known k) at (c .values-fault .ensures))
+    let k = rowed d in
+    third-of _ _ _ _ (common k) (sym (told d) ∙ c .before .if2 .left) (rw (← known k) at (c .values-fault .ensures))
 
 pub due-fault-spec : {M : Type 1} → statement M
 due-fault-spec =
@@ -87,7 +101,7 @@ due-fault-spec =
     (tie.spec
     common-fault-requires
     returns
-    line-length-requires
+    row-of-requires
     slice-aggregate-line
     date-fault-requires
     returns-2

@@ -1,161 +1,115 @@
--- A 200 line: what every line is tried for, its date and its value, in this order.
+-- A 200 line: its hour of the quarter, and behind it its value.
 use mathlib.Core.Path.{_≡_, refl, sym, ap, _∙_}
 use mathlib.Core.List.{List}
-use Prim.Native.Nat.{ℕ, _≤_, _<_}
+use Prim.Native.Nat.{ℕ}
 use native.Mathlib.Omega.{arith}
 use lib.ListN.{length, take}
-use borrow.Author.Tests.{lt-leb, le-leb}
 use borrow.Author.Needs.{needs}
-use Rattle.calendar.specs.declared.QuarterHour.{QuarterHour}
-use Rattle.calendar.specs.declared.QuarterHour.the-variants.{At, Outside}
 use Rattle.layout.specs.Layout.{lengthOf, valuesOf}
 use Rattle.layout.specs.declared.RecordType.the-variants.{So2Concentration}
+use Rattle.exact.specs.Faults.{or-next}
 use Rattle.lines.specs.Lines.{firstLine}
-use Rattle.exact.specs.Faults.{_orElse_}
-use Rattle.lines.specs.LineFaults.{shapeFault, commonFault, valuesFault, risingFault, hourOn, hourFault, hourNumber, hourLine}
-use Rattle.lines.specs.FaultLaws.{common-shape}
+use Rattle.lines.specs.LineFaults.{shapeFault, valuesFault, hourIn, datedFault, hourFault}
+use Rattle.lines.specs.FaultLaws.{dated-shape}
 use Rattle.lines.specs.declared.Period.{Period}
-use Rattle.lines.specs.declared.HourLine.{HourLine}
-use Rattle.lines.specs.declared.HourLine.the-variants.{At as OfHour, Faulty}
+use Rattle.lines.specs.declared.HourLine.the-variants.{At as OfHour}
 use Rattle.lines.proofs.Chains.{first-of}
 use Rattle.lines.proofs.Shapes.{line-known, line-length}
-use Rattle.lines.proofs.Answers.{hour-faulty, hour-of, hour-tests}
+use Rattle.lines.proofs.Answers.{dated-at, dated-not, hour-faulty, hour-of}
 use Rattle.lines.proofs.hour_line.Statement.{statement}
 use Rattle.lines.proofs.hour_line.Tie as tie
 
--- an hour that is read: too early, or followed by the values' fault
-rises : (from hour rest : ℕ) → from ≤ hour → risingFault from (At hour) orElse rest ≡ rest
-unfolding risingFault
-rises from hour rest h = rw (le-leb from hour h)
-
-falls : (from hour rest : ℕ) → hour < from → risingFault from (At hour) orElse rest ≡ 6
-unfolding risingFault
-falls from hour rest h = rw (lt-leb from hour h)
-
 -- the places of the code, each from the next one below it
-abbrev start : tie.Else1 → tie.Start
-start c = c .before .before .before .before
+abbrev start : tie.After-dated-line → tie.Start
+start c = c .before .before .before
 
-abbrev shaped : tie.After-read-stamp → tie.Else1
-shaped c = c .before .before
+abbrev dated : tie.After-known-told → tie.After-dated-line
+dated c = c .before .before .before
 
-abbrev stamped : tie.After-known-told → tie.After-read-stamp
-stamped c = c .before .before .before
+abbrev hourly : tie.After-values-fault → tie.After-known-told
+hourly c = c .before .before
 
-abbrev tried : tie.After-known-told → tie.Else1
-tried c = shaped (stamped c)
+abbrev faulty : tie.After-known-told2 → tie.After-dated-line
+faulty c = c .before .before .before
 
-abbrev rising : tie.After-values-fault → tie.Else2
-rising c = c .before
-
--- the line, once it has no fault that every line is tried for
-module _ (c : tie.Else1) where
+-- the line, once its hour is known
+module _ (c : tie.After-known-told) where
   abbrev period : Period
-  period = start c .args .period
+  period = start (dated c) .args .period
 
   abbrev facility : List ℕ
-  facility = start c .args .facility .now
+  facility = start (dated c) .args .facility .now
 
   abbrev from : ℕ
-  from = start c .args .from
+  from = start (dated c) .args .from
 
   abbrev rest : List ℕ
-  rest = start c .args .rest .now
+  rest = start (dated c) .args .rest .now
 
   abbrev line : List ℕ
   line = take (lengthOf So2Concentration) rest
 
-  abbrev fault : ℕ
-  fault = hourFault facility period from line
+  abbrev hour : ℕ
+  hour = c .before .dated .given .0 .0
 
-  common : commonFault facility So2Concentration (firstLine rest) ≡ 0
-  common = sym (c .before .common-fault .ensures) ∙ c .if1 .left
+  said : (datedFault facility period So2Concentration from (firstLine rest) ≡ 0) × (hourIn period So2Concentration (firstLine rest) ≡ hour)
+  said = dated-at facility period So2Concentration from (firstLine rest) hour (sym (dated c .dated-line .ensures) ∙ c .before .dated .given .1)
 
   fine : shapeFault So2Concentration (firstLine rest) ≡ 0
-  fine = common-shape facility So2Concentration (firstLine rest) common
-
-  known : firstLine rest ≡ line
-  known = line-known So2Concentration rest fine (lengthOf So2Concentration) refl
+  fine = dated-shape facility period So2Concentration from (firstLine rest) (said .0)
 
   long : length line ≡ lengthOf So2Concentration
   long = line-length So2Concentration rest fine (lengthOf So2Concentration) refl
 
-  tests : (hour : QuarterHour) → hourOn period line ≡ hour → fault ≡ risingFault from hour orElse valuesFault (valuesOf So2Concentration) line
-  tests hour e = hour-tests facility period from line hour (rw (← known) common) e
-
-  told : (answer : HourLine) → answer ≡ hourLine facility period from line → answer ≡ hourLine facility period from (firstLine rest)
-  told answer e = rw known e
-
-  faulty : (f : ℕ) → (f ≡ 0 → ⊥) → fault ≡ f → Faulty f ≡ hourLine facility period from (firstLine rest)
-  faulty f other e = told (Faulty f) (hour-faulty facility period from line f (sym e) other)
-
--- the hour that was read, and that it is one of the quarter
-read : (c : tie.After-read-stamp) (hour : QuarterHour) → c .read-stamp .result ≡ hour → hourOn (period (shaped c)) (line (shaped c)) ≡ hour
-read c hour e = sym (c .read-stamp .ensures) ∙ e
-
-inside : (c : tie.After-known-told) → let k = tried c in hourOn (period k) (line k) ≡ At (c .before .hour .given .0 .0)
-inside c = read (stamped c) _ (c .before .hour .given .1)
-
--- the fault of the values is the line's
-last : (c : tie.After-values-fault) → fault (tried (rising c .before)) ≡ c .values-fault .result
+-- the fault of the value is the line's
+last : (c : tie.After-values-fault) → let k = hourly c in c .values-fault .result ≡ hourFault (facility k) (period k) (from k) (firstLine (rest k))
+unfolding hourFault
 last c =
-    let r = rising c in
-    tests (tried (r .before)) _ (inside (r .before)) ∙ rises _ _ _ (r .if2 .left) ∙ sym (c .values-fault .ensures)
+    let k = hourly c in
+    c .values-fault .ensures
+    ∙ ap (valuesFault (valuesOf So2Concentration)) (sym (line-known So2Concentration (rest k) (fine k) (lengthOf So2Concentration) refl))
+    ∙ sym (or-next _ _ (said k .0))
 
-common-fault-requires : tie.Need-common-fault-requires
-common-fault-requires c κs = search needs
+dated-line-requires : tie.Need-dated-line-requires
+dated-line-requires c κs = search needs
+
+enum-known-dated : tie.Need-enum-known-dated
+enum-known-dated c = search needs
+
+slice-aggregate-values-fault : tie.Need-slice-aggregate-values-fault
+slice-aggregate-values-fault c = sym (long (c .before))
+
+values-fault-requires : tie.Need-values-fault-requires
+values-fault-requires c κs = long (c .before)
 
 returns : tie.Need-returns
-unfolding hourFault
-returns c = hour-faulty _ _ _ _ _ (first-of _ _ _ (c .before .common-fault .ensures) (λ e. omega arith)) (λ e. omega arith)
+returns c = hour-faulty _ _ _ _ _ (last (c .before)) (λ e. omega arith)
 
-slice-aggregate-line : tie.Need-slice-aggregate-line
-slice-aggregate-line c = sym (long (c .before))
-
-read-stamp-requires : tie.Need-read-stamp-requires
-read-stamp-requires c κs = (record { first = omega arith; last = omega (arith, long (c .before)) }, start (c .before) .pre .1)
-
-enum-known-hour : tie.Need-enum-known-hour
-enum-known-hour c = search needs
+enum-known-dated-2 : tie.Need-enum-known-dated-2
+enum-known-dated-2 c = search needs
 
 returns-2 : tie.Need-returns-2
 returns-2 c =
-    let k = tried (c .before) in
-    faulty k 6 (λ e. omega arith) (tests k _ (inside (c .before)) ∙ falls _ _ _ (c .if2 .taken))
-
-values-fault-requires : tie.Need-values-fault-requires
-values-fault-requires c κs = long (tried (c .before))
+    let v = c .before in
+    let k = hourly v in
+    ap OfHour (sym (said k .1)) ∙ hour-of (facility k) (period k) (from k) (firstLine (rest k)) (sym (last v) ∙ c .if1 .left)
 
 returns-3 : tie.Need-returns-3
-returns-3 c = faulty (tried (rising (c .before) .before)) _ (λ e. omega arith) (last (c .before))
-
-enum-told : tie.Need-enum-told
-enum-told c = search needs
-
-returns-4 : tie.Need-returns-4
-unfolding hourNumber
-returns-4 c =
-    let h = rising (c .before) .before in
-    told (tried h) _ (ap (λ h. OfHour (hourNumber h)) (sym (inside h)) ∙ hour-of _ _ _ _ (last (c .before) ∙ c .if3 .left))
-
-returns-5 : tie.Need-returns-5
-unfolding risingFault
-returns-5 c =
-    let r = c .before .before in
-    faulty (shaped r) 6 (λ e. omega arith) (tests (shaped r) Outside (read r Outside (c .enum-told .given .1)))
+unfolding hourFault
+returns-3 c =
+    let d = faulty c in
+    let n = dated-not _ _ So2Concentration _ _ _ (sym (d .dated-line .ensures) ∙ c .before .dated2 .given .1) in
+    hour-faulty _ _ _ _ _ (first-of _ _ _ (sym (n .0)) (n .1)) (n .1)
 
 pub hour-line-spec : {M : Type 1} → statement M
 hour-line-spec =
     tie.close
     (tie.spec
-    common-fault-requires
-    returns
-    slice-aggregate-line
-    read-stamp-requires
-    enum-known-hour
-    returns-2
+    dated-line-requires
+    enum-known-dated
+    slice-aggregate-values-fault
     values-fault-requires
-    returns-3
-    enum-told
-    returns-4
-    returns-5)
+    returns
+    enum-known-dated-2
+    returns-2
+    returns-3)

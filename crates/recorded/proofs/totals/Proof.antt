@@ -1,9 +1,23 @@
 -- The totals on line 301, each where the layout has it.
-use Rattle.reading.specs.Recorded.{totalsIn}
+use Prim.Native.Nat.{ℕ}
+use mathlib.Core.Path.{_≡_, refl, _∙_}
+use Rattle.columns.specs.Number.{numberOf}
+use Rattle.layout.specs.Layout.{valueAt}
+use Rattle.layout.specs.declared.RecordType.the-variants.{QuarterTotals}
+use Rattle.lines.specs.LineFaults.{fieldIn}
+use Rattle.reading.specs.Recorded.{valueOn, totalsIn}
+use Rattle.reading.specs.Places.{lineAt}
 use Rattle.reading.specs.RecordLaws.{hours-standing}
+use Rattle.reading.specs.RankLaws.{value-stands, once-stands}
 use borrow.Author.Needs.{needs}
 use Rattle.recorded.proofs.totals.Statement.{statement}
 use Rattle.recorded.proofs.totals.Tie as tie
+
+total : (c : tie.Start) (i : ℕ) → let x = c .args in
+    numberOf (fieldIn (valueAt QuarterTotals i) (lineAt (x .file .now) (x .s) QuarterTotals 0 .text)) ≡ valueOn (x .file .now) QuarterTotals 0 i
+total c i =
+    let x = c .args in
+    value-stands (x .file .now) (x .s) QuarterTotals 0 0 (once-stands (x .file .now) (x .s) (c .pre) QuarterTotals refl) i
 
 value-in-requires : tie.Need-value-in-requires
 value-in-requires c κs = search needs
@@ -19,7 +33,13 @@ value-in-requires-4 c κs = search needs
 
 returns : tie.Need-returns
 unfolding totalsIn
-returns c = let s = c .before .before .before .before .before in cc (hours-standing (s .args .file .now) (s .args .s) (s .pre))
+returns c =
+    let heat = c .before in
+    let co2 = heat .before in
+    let so2 = co2 .before in
+    let x = so2 .before .before in
+    rw (← hours-standing (x .args .file .now) (x .args .s) (x .pre), so2 .value-in .ensures ∙ total x 0, co2 .value-in2 .ensures ∙ total x 1)
+    (rw (heat .value-in3 .ensures ∙ total x 2, c .value-in4 .ensures ∙ total x 3))
 
 pub totals-spec : {M : Type 1} → statement M
 totals-spec =

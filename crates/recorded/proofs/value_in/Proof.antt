@@ -17,8 +17,8 @@ start c = c .before .before
 abbrev column : tie.After-offset-of → tie.After-value-at
 column c = c .before
 
-fits : (c : tie.Start) → (offsetOf (c .args .s) (c .args .t) (c .args .k) + lengthOf (c .args .t) ≤ length (c .args .file .now)) × (c .args .k ≤ mostHours)
-fits c = room-for (c .args .file .now) (c .args .s) (c .pre .0) (c .args .t) (c .args .k) (c .pre .1)
+fits : (c : tie.Start) → (offsetOf (c .args .s) (c .args .t) (c .args .p) + lengthOf (c .args .t) ≤ length (c .args .file .now)) × (c .args .p ≤ mostHours)
+fits c = room-for (c .args .file .now) (c .args .s) (c .pre .0) (c .args .t) (c .args .p) (c .pre .1)
 
 inside : (c : tie.After-value-at) → ValueInside (start c .args .t) (c .value-at .result)
 inside c = rw (← c .value-at .ensures) at (value-inside (start c .args .t) (start c .args .i) (omega arith))
@@ -50,7 +50,7 @@ returns : tie.Need-returns
 returns c =
     let o = c .before .before .before in
     let s = start (column o) in
-    cc (value-at (s .args .file .now) (s .args .s) (s .pre .0) (s .args .t) (s .args .k) (s .pre .1) (s .args .i) (s .pre .2))
+    cc (value-at (s .args .file .now) (s .args .s) (s .args .t) (s .args .p) (s .args .i) (s .pre .2))
 
 pub value-in-spec : {M : Type 1} → statement M
 value-in-spec =

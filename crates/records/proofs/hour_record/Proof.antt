@@ -1,7 +1,6 @@
 -- `records::hour_record` meets its contract: the heading, the date and hour, the values.
 use native.Mathlib.Omega.{arith}
 use Rattle.layout.specs.LayoutLaws.{date-fits}
-use Rattle.layout.specs.RunLaws.{hourly-dated}
 use borrow.Author.Needs.{needs}
 use Rattle.records.proofs.hour_record.Statement.{statement}
 use Rattle.records.proofs.hour_record.Tie as tie
@@ -23,7 +22,7 @@ write-digits-requires : tie.Need-write-digits-requires
 write-digits-requires c κs =
     let h = headed c in
     let s = start h in
-    rw (c .date-column .ensures) (omega (arith, hourly-dated (s .args .t) (s .pre .2), date-fits (s .args .t), h .write-heading .kept .0))
+    rw (c .date-column .ensures) (omega (arith, s .pre .2, date-fits (s .args .t), h .write-heading .kept .0))
 
 hour-values-requires : tie.Need-hour-values-requires
 hour-values-requires c κs = search needs

@@ -1,10 +1,8 @@
 -- `records::hour_values` meets its contract, type by type.
-use Prim.Native.Nat.{ℕ}
-use mathlib.Core.Path.{_≡_}
+use Prim.Native.Nat.{_≤_}
 use native.Mathlib.Omega.{arith}
-use Rattle.layout.specs.Layout.{recordOf}
+use Rattle.layout.specs.Layout.{dateColumn}
 use Rattle.layout.specs.declared.RecordType.the-variants.{QuarterTotals}
-use Rattle.layout.specs.declared.Run.the-variants.{Hourly}
 use borrow.Author.Needs.{needs}
 use Rattle.records.proofs.hour_values.Statement.{statement}
 use Rattle.records.proofs.hour_values.Tie as tie
@@ -62,8 +60,7 @@ returns-6 c = rw (c .enum-told6 .given .1)
 
 returns-7 : tie.Need-returns-7
 returns-7 c =
-    let once : recordOf QuarterTotals .run ≡ Hourly = rw (c .enum-told7 .given .1) at (c .before .before .pre .0) in
-    let z : _≡_ {A = ℕ} 0 1 = cc in
+    let dated : 1 ≤ dateColumn QuarterTotals = rw (c .enum-told7 .given .1) at (c .before .before .pre .0) in
     absurd (omega arith)
 
 returns-8 : tie.Need-returns-8

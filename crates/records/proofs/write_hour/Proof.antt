@@ -8,6 +8,7 @@ use Rattle.columns.specs.Written.{digitsOf}
 use Rattle.columns.specs.WrittenLaws.{digits-length}
 use Rattle.layout.specs.Layout.{lengthOf, dateWidth, offsetOf}
 use Rattle.layout.specs.PlaceLaws.{line-inside}
+use Rattle.layout.specs.RunLaws.{dated-below}
 use Rattle.records.specs.Records.{ended, datedRecord}
 use Rattle.records.specs.RecordLaws.{dated-length}
 use Rattle.records.proofs.Lines.{line-put}
@@ -26,7 +27,8 @@ sized c = c .before .before
 inside : (c : tie.Start) → offsetOf (c .args .s) (c .args .t) (c .args .k) + lengthOf (c .args .t) < length (c .args .buffer .now)
 inside c =
     let f = c .pre .0 in
-    omega (arith, line-inside (c .args .s) (c .args .t) (c .args .k) (rw (c .pre .1) (f .rank)), f .room)
+    let x = c .args in
+    omega (arith, line-inside (x .s) (x .t) (x .k) (dated-below (x .t) (c .pre .1) (x .s) (x .k) (f .rank) (f .listed)), f .room)
 
 -- where the line ends
 ends : (c : tie.After-line-length) → c .before .offset-of .result + c .line-length .result < length (start (c .before) .args .buffer .now)

@@ -1,8 +1,6 @@
 -- The date and hour of a line, where its type has one, compared with the one that it must be.
 use Rattle.lines.proofs.Values.{date-compared}
-use mathlib.Core.Path.{_≡_, sym, _∙_}
-use Rattle.layout.specs.Layout.{dateColumn}
-use Rattle.layout.specs.LayoutLaws.{date-fits}
+use mathlib.Core.Path.{_≡_, refl, sym, _∙_}
 use native.Mathlib.Omega.{arith}
 use Rattle.exact.specs.Faults.{unless}
 use Rattle.lines.specs.LineFaults.{dateFault}
@@ -12,28 +10,25 @@ use Rattle.lines.proofs.faults.date_fault.Tie as tie
 
 -- the places of the code, each from the next one below it
 abbrev start : tie.Else1 → tie.Start
-start c = c .before .before .before .before
+start c = c .before .before .before
 
 abbrev columned : tie.After-same-bytes → tie.Else1
 columned c = c .before .before
 
 -- the verdict of the comparison
 told : (c : tie.After-same-bytes) → let x = start (columned c) .args in
-    dateFault (dateColumn (x .t)) (x .date .now) (x .line .now) ≡ unless (c .same-bytes .result) 7
-told c = date-compared _ _ _ _ _ (columned c .before .date-column .ensures) (columned c .if1 .left) (c .same-bytes .ensures)
-
-date-column-requires : tie.Need-date-column-requires
-date-column-requires c κs = search needs
+    dateFault (x .column) (x .date .now) (x .line .now) ≡ unless (c .same-bytes .result) 7
+told c = date-compared _ _ _ _ _ refl (columned c .if1 .left) (c .same-bytes .ensures)
 
 returns : tie.Need-returns
 unfolding dateFault
-returns c = rw (sym (c .before .date-column .ensures) ∙ c .if1 .taken)
+returns c = rw (c .if1 .taken)
 
 sub-from : tie.Need-sub-from
 sub-from c = search needs
 
 add-same-bytes : tie.Need-add-same-bytes
-add-same-bytes c = omega (arith, date-fits (start c .args .t))
+add-same-bytes c = omega (arith, start c .pre)
 
 sub-same-bytes : tie.Need-sub-same-bytes
 sub-same-bytes c = search needs
@@ -42,7 +37,7 @@ part-same-bytes-start : tie.Need-part-same-bytes-start
 part-same-bytes-start c = search needs
 
 part-same-bytes-end : tie.Need-part-same-bytes-end
-part-same-bytes-end c = omega (arith, date-fits (start c .args .t))
+part-same-bytes-end c = omega (arith, start c .pre)
 
 same-bytes-requires : tie.Need-same-bytes-requires
 same-bytes-requires c κs = search needs
@@ -57,7 +52,6 @@ pub date-fault-spec : {M : Type 1} → statement M
 date-fault-spec =
     tie.close
     (tie.spec
-    date-column-requires
     returns
     sub-from
     add-same-bytes

@@ -1,8 +1,9 @@
--- The date of the 200 line of a rank, for a type that has a line for every operating hour.
+-- The date of the 200 line of a rank, for a type that has lines by the hour.
 use Prim.Native.Nat.{_<_}
-use mathlib.Core.Path.{sym, _∙_}
-use native.Mathlib.Omega.{arith}
-use Rattle.reading.proofs.Runs.{run-lines, run-date, date-part}
+use mathlib.Core.Path.{_≡_, _∙_}
+use Rattle.layout.specs.declared.Run.{Run}
+use Rattle.layout.specs.Layout.{linesOf, shape}
+use Rattle.reading.proofs.Runs.{run-lines, run-date}
 use borrow.Author.Needs.{needs}
 use Rattle.reading.proofs.walk.date_due.Statement.{statement}
 use Rattle.reading.proofs.walk.date_due.Tie as tie
@@ -17,10 +18,11 @@ once c = c .before .before
 abbrev hourly : tie.After-enum-told2 → tie.After-row-of
 hourly c = c .before .before
 
-below : (c : tie.After-enum-told2) → let x = start (hourly c) .args in x .k < x .n
-below c =
-    let x = start (hourly c) in
-    rw (run-lines (x .args .t) (hourly c .row-of .ensures) (c .enum-told2 .given .1) (x .args .n)) at (x .pre .1)
+abbrev listed : tie.After-enum-told3 → tie.After-row-of
+listed c = c .before .before
+
+below : (c : tie.After-row-of) (run : Run) → c .row-of .result .run ≡ run → let x = start c .args in x .k < linesOf run (shape (x .n))
+below c run e = let x = start c in rw (run-lines (x .args .t) (c .row-of .ensures) e (x .args .n)) at (x .pre .1)
 
 row-of-requires : tie.Need-row-of-requires
 row-of-requires c κs = search needs
@@ -34,23 +36,14 @@ slice-aggregate-result c = search needs
 enum-told-2 : tie.Need-enum-told-2
 enum-told-2 c = search needs
 
-mul-from : tie.Need-mul-from
-mul-from c = omega (arith, below c)
+hour-date-requires : tie.Need-hour-date-requires
+hour-date-requires c κs = (start (hourly c) .pre .0, below (hourly c) _ (c .enum-told2 .given .1))
 
-add-from : tie.Need-add-from
-add-from c = omega (arith, below c)
+enum-told-3 : tie.Need-enum-told-3
+enum-told-3 c = search needs
 
-add-result : tie.Need-add-result
-add-result c = omega (arith, below c)
-
-sub-result : tie.Need-sub-result
-sub-result c = search needs
-
-part-result-start : tie.Need-part-result-start
-part-result-start c = search needs
-
-part-result-end : tie.Need-part-result-end
-part-result-end c = omega (arith, below c)
+hour-date-requires-2 : tie.Need-hour-date-requires-2
+hour-date-requires-2 c κs = (start (listed c) .pre .0, below (listed c) _ (c .enum-told3 .given .1))
 
 returns : tie.Need-returns
 returns c =
@@ -62,7 +55,13 @@ returns-2 : tie.Need-returns-2
 returns-2 c =
     let r = hourly (c .before) in
     let x = start r .args in
-    sym (date-part (x .file .now) (x .k)) ∙ run-date (x .t) (r .row-of .ensures) (c .before .enum-told2 .given .1) (x .file .now) (x .k)
+    c .hour-date .ensures ∙ run-date (x .t) (r .row-of .ensures) (c .before .enum-told2 .given .1) (x .file .now) (x .k)
+
+returns-3 : tie.Need-returns-3
+returns-3 c =
+    let r = listed (c .before) in
+    let x = start r .args in
+    c .hour-date2 .ensures ∙ run-date (x .t) (r .row-of .ensures) (c .before .enum-told3 .given .1) (x .file .now) (x .k)
 
 pub date-due-spec : {M : Type 1} → statement M
 date-due-spec =
@@ -72,11 +71,9 @@ date-due-spec =
     enum-told
     slice-aggregate-result
     enum-told-2
-    mul-from
-    add-from
-    add-result
-    sub-result
-    part-result-start
-    part-result-end
+    hour-date-requires
+    enum-told-3
+    hour-date-requires-2
     returns
-    returns-2)
+    returns-2
+    returns-3)

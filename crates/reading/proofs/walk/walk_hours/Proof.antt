@@ -114,7 +114,7 @@ type-is-requires : tie.Need-type-is-requires Inv-loop μ-loop
 type-is-requires c κs = search needs
 
 walk-later-requires : tie.Need-walk-later-requires Inv-loop μ-loop
-walk-later-requires c κs = rising-counted _ _ _ _ _ (stood (c .before) .loop .inv)
+walk-later-requires c κs = let l = stood (c .before) in (rising-counted _ _ _ _ _ (l .loop .inv), start l .pre .1)
 
 returns : tie.Need-returns Inv-loop μ-loop
 returns c =
@@ -162,7 +162,7 @@ loop-again : tie.Need-loop-again Inv-loop μ-loop
 loop-again c = next c
 
 walk-later-requires-2 : tie.Need-walk-later-requires-2 Inv-loop μ-loop
-walk-later-requires-2 c κs = rising-counted _ _ _ _ _ (c .before .loop .inv)
+walk-later-requires-2 c κs = let l = c .before in (rising-counted _ _ _ _ _ (l .loop .inv), start l .pre .1)
 
 returns-3 : tie.Need-returns-3 Inv-loop μ-loop
 returns-3 c = c .walk-later2 .ensures ∙ rising-end _ _ _ _ _ (c .before .before .loop .inv) (omega arith)

@@ -1,6 +1,7 @@
 -- `writer::report::write_hour_lines` meets its contract: a line of each type.
-use mathlib.Core.Path.{_≡_, refl, ap, _∙_}
+use mathlib.Core.Path.{_≡_, ap, _∙_}
 use native.Mathlib.Omega.{arith}
+use lib.Dec.{lit≤}
 use lib.ListN.{length}
 use borrow.Author.Needs.{needs}
 use Rattle.columns.specs.Columns.{put}
@@ -48,29 +49,29 @@ write-hour-requires : tie.Need-write-hour-requires
 write-hour-requires c κs = search needs
 
 write-hour-requires-2 : tie.Need-write-hour-requires-2
-write-hour-requires-2 c κs = let s = start (so2 c) in (hour-still-fits (s .pre .0) (omega arith), refl, s .pre .1)
+write-hour-requires-2 c κs = let s = start (so2 c) in (hour-still-fits (s .pre .0) (omega arith), lit≤ tt, s .pre .1)
 
 write-hour-requires-3 : tie.Need-write-hour-requires-3
-write-hour-requires-3 c κs = let s = start (so2 (nox c .before)) in (hour-still-fits (s .pre .0) (omega arith), refl, s .pre .1)
+write-hour-requires-3 c κs = let s = start (so2 (nox c .before)) in (hour-still-fits (s .pre .0) (omega arith), lit≤ tt, s .pre .1)
 
 write-hour-requires-4 : tie.Need-write-hour-requires-4
-write-hour-requires-4 c κs = let s = start (so2 (nox (co2 c .before) .before)) in (hour-still-fits (s .pre .0) (omega arith), refl, s .pre .1)
+write-hour-requires-4 c κs = let s = start (so2 (nox (co2 c .before) .before)) in (hour-still-fits (s .pre .0) (omega arith), lit≤ tt, s .pre .1)
 
 write-hour-requires-5 : tie.Need-write-hour-requires-5
-write-hour-requires-5 c κs = let s = entry (flow c) in (hour-still-fits (s .pre .0) (half (flow c)), refl, s .pre .1)
+write-hour-requires-5 c κs = let s = entry (flow c) in (hour-still-fits (s .pre .0) (half (flow c)), lit≤ tt, s .pre .1)
 
 write-hour-requires-6 : tie.Need-write-hour-requires-6
-write-hour-requires-6 c κs = let f = flow (operation c .before) in (hour-still-fits (entry f .pre .0) (omega (arith, half f)), refl, entry f .pre .1)
+write-hour-requires-6 c κs = let f = flow (operation c .before) in (hour-still-fits (entry f .pre .0) (omega (arith, half f)), lit≤ tt, entry f .pre .1)
 
 write-hour-requires-7 : tie.Need-write-hour-requires-7
 write-hour-requires-7 c κs =
     let f = flow (operation (so2-mass c .before) .before) in
-    (hour-still-fits (entry f .pre .0) (omega (arith, half f)), refl, entry f .pre .1)
+    (hour-still-fits (entry f .pre .0) (omega (arith, half f)), lit≤ tt, entry f .pre .1)
 
 write-hour-requires-8 : tie.Need-write-hour-requires-8
 write-hour-requires-8 c κs =
     let f = flow (operation (so2-mass (nox-rate c .before) .before) .before) in
-    (hour-still-fits (entry f .pre .0) (omega (arith, half f)), refl, entry f .pre .1)
+    (hour-still-fits (entry f .pre .0) (omega (arith, half f)), lit≤ tt, entry f .pre .1)
 
 same-length : tie.Need-same-length
 same-length c = omega (arith, half (flow (operation (so2-mass (nox-rate (co2-mass c .before) .before) .before) .before)))

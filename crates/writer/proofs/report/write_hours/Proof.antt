@@ -104,7 +104,13 @@ write-hour-lines-requires c κs =
     let s = shaped (turn d) in
     let f = start s .pre in
     let e = s .shape-of .ensures in (
-      record { rank = d .if1 .taken; held = rw e (f .writable .held); named = f .named; room = rw e (omega (arith, f .room, turn d .loop .inv .kept)) },
+      record {
+        rank = d .if1 .taken;
+        listed = omega (arith, d .if1 .taken, ap (λ (s : Shape). s .hours) e, ap (λ (s : Shape). s .operations) e);
+        held = rw e (f .writable .held);
+        named = f .named;
+        room = rw e (omega (arith, f .room, turn d .loop .inv .kept));
+      },
       within (recorded c) .readings,
     )
 

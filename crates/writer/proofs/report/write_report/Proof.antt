@@ -14,7 +14,7 @@ use Rattle.totals.specs.declared.Quarter.{Quarter}
 use Rattle.records.specs.Records.{ended, totalsRecord}
 use Rattle.writer.specs.Recorded.{reportHours}
 use Rattle.writer.specs.HourLines.{hoursLines}
-use Rattle.writer.specs.ReportLaws.{report-hours-count}
+use Rattle.writer.specs.ReportLaws.{report-shape}
 use Rattle.writer.proofs.Hours.{still-fits}
 use Rattle.writer.proofs.HourLines.{report-written}
 use Rattle.writer.proofs.report.write_report.Statement.{statement}
@@ -77,7 +77,7 @@ returns c =
     t .write-totals .ensures
     ∙ with-totals _ (starts o) (w .write-hours .ensures .0) (w .write-hours .ensures .1 ∙ ap (hoursLines _ _ _ _ _ _) (f .write-facility .ensures))
     ∙ report-written (x .year) (x .quarter) (x .name .now) (s .pre .named) (reportHours (sheetHours (x .sheet .now))) (shapeOf (x .sheet .now))
-    (report-hours-count (x .sheet .now))
+    (report-shape (x .sheet .now))
     (x .buffer .now) (s .pre .room)
 
 pub write-report-spec : {M : Type 1} → statement M
