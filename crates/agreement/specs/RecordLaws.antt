@@ -23,7 +23,7 @@ use Rattle.layout.specs.Layout.{codeOf, lengthOf, typeStart, typeWidth, typeDig
 use Rattle.layout.specs.Layout.{Within}
 use Rattle.layout.specs.LayoutLaws.{each, length-least}
 use Rattle.lines.specs.FaultLaws.{field-right}
-use Rattle.layout.specs.declared.Value.{Value}
+use Rattle.layout.specs.declared.values.Value.{Value}
 use Rattle.layout.specs.declared.RecordType.{RecordType}
 use Rattle.lines.specs.LineFaults.{typeIs, shapeFault, stackOf, stackFault, commonFault, fieldIn, valuesFault}
 use Rattle.records.specs.Records.{headed, valued}

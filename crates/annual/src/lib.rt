@@ -1,4 +1,5 @@
 // The year to date: a year's record, quarter by quarter.
+use layout::values;
 use totals::Quarter;
 ghost use mathlib.Core.Path.{_≡_};
 ghost use Prim.Native.Nat.{_+_};
@@ -36,7 +37,7 @@ fn all_zeros(y: YearToDate) -> bool
 fn follows(previous: YearToDate, year: u64, quarter: u64, answer: Quarter) -> bool
     ensures { λ r. ⌜ r ≡ follows previous year quarter answer ⌝ }
 {
-    if !layout::within(layout::QUARTER, quarter) {
+    if !values::within(values::QUARTER, quarter) {
         return false;
     }
     if previous.quarter != quarter - 1 {

@@ -130,7 +130,7 @@ damages =
     ∷ record { file = changed So2Mass 27 (57 ∷ []); number = 12; line = 8 }
     ∷ record { file = changed NoxRate 39 (57 ∷ []); number = 13; line = 9 }
     ∷ record { file = changed Co2Mass 20 (57 ∷ []); number = 14; line = 10 }
-    -- heat total 966.7
+    -- heat total 696.7
     ∷ record { file = changed QuarterTotals 39 (57 ∷ []); number = 23; line = 7 }
     ∷ []
 
@@ -195,7 +195,7 @@ idleDamages =
     ∷ record { file = emptyListed (idleLine 0 ++ operatingLine 1); number = 7; line = 3 }
     -- 301 is missing behind an idle line
     ∷ record { file = take (start QuarterTotals + lengthOf Operation + 1) (withListed (operatingLine 1 ++ idleLine 2)); number = 10; line = 8 }
-    -- SO2 930.0 on its 310 line, and heat total 966.7, behind two idle lines
+    -- SO2 930.0 on its 310 line, and heat total 696.7, behind two idle lines
     ∷ record { file = put (start So2Mass + twoLines + 27) (57 ∷ []) (withListed (idleLine 0 ++ operatingLine 1 ++ idleLine 2)); number = 12; line = 10 }
     ∷ record { file = put (start QuarterTotals + twoLines + 39) (57 ∷ []) (withListed (idleLine 0 ++ operatingLine 1 ++ idleLine 2)); number = 23; line = 9 }
     ∷ []

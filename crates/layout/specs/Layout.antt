@@ -11,7 +11,7 @@ use Rattle.columns.specs.Written.{digitsOf}
 use Rattle.layout.specs.declared.RecordType.{RecordType}
 use Rattle.layout.specs.declared.RecordType.the-variants.{Facility, So2Concentration, NoxConcentration, Co2Concentration, VolumetricFlow}
 use Rattle.layout.specs.declared.RecordType.the-variants.{Operation, QuarterTotals, So2Mass, NoxRate, Co2Mass}
-use Rattle.layout.specs.declared.Value.{Value}
+use Rattle.layout.specs.declared.values.Value.{Value}
 use Rattle.layout.specs.declared.Shape.{Shape}
 use Rattle.layout.specs.declared.Run.{Run}
 use Rattle.layout.specs.declared.Run.the-variants.{Once, Hourly, Listed}

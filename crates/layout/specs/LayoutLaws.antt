@@ -20,7 +20,7 @@ use Rattle.layout.specs.declared.RecordType.the-variants.{Operation, Qua
 use Rattle.layout.specs.declared.Run.{Run}
 use Rattle.layout.specs.declared.Run.the-variants.{Once, Hourly, Listed}
 use Rattle.layout.specs.declared.Shape.{Shape}
-use Rattle.layout.specs.declared.Value.{Value}
+use Rattle.layout.specs.declared.values.Value.{Value}
 
 -- a test of a type, of all types
 abbrev pub allTypes : (RecordType → Bool) → List RecordType → Bool

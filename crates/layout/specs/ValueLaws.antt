@@ -13,7 +13,7 @@ use Rattle.columns.specs.Number.{fewestColumns}
 use Rattle.layout.specs.Layout.{lengthOf, valuesOf, valueCount, valueAt, noValue}
 use Rattle.exact.specs.Logic.{both}
 use Rattle.layout.specs.LayoutLaws.{each}
-use Rattle.layout.specs.declared.Value.{Value}
+use Rattle.layout.specs.declared.values.Value.{Value}
 use Rattle.layout.specs.declared.RecordType.{RecordType}
 use Rattle.layout.specs.declared.RecordType.the-variants.{Facility, So2Concentration, NoxConcentration, Co2Concentration, VolumetricFlow}
 use Rattle.layout.specs.declared.RecordType.the-variants.{Operation, QuarterTotals, So2Mass, NoxRate, Co2Mass}

@@ -13,7 +13,7 @@ use Rattle.columns.specs.Columns.{columns}
 use Rattle.layout.specs.Layout.{dateWidth, rangedValue, valueCount, valuesOf, valueAt}
 use Rattle.layout.specs.ValueLaws.{value-count, value-of}
 use Rattle.layout.specs.declared.RecordType.{RecordType}
-use Rattle.layout.specs.declared.Value.{Value}
+use Rattle.layout.specs.declared.values.Value.{Value}
 use Rattle.exact.specs.Faults.{_orElse_, unless, or-first, or-next}
 use Rattle.lines.specs.LineFaults.{fieldFault, fieldIn, valuesFault, dateFault}
 

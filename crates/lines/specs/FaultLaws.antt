@@ -23,7 +23,7 @@ use Rattle.layout.specs.LayoutLaws.{tests-within, within-true, true-in-range}
 use Rattle.layout.specs.TypeLaws.{digits-tell}
 use Rattle.layout.specs.declared.RecordType.{RecordType}
 use Rattle.layout.specs.declared.RecordType.the-variants.{Facility, So2Concentration}
-use Rattle.layout.specs.declared.Value.{Value}
+use Rattle.layout.specs.declared.values.Value.{Value}
 use Rattle.stamp.specs.StampLaws.{stamp-below}
 use Rattle.exact.specs.Faults.{unless, or-zero, unless-zero}
 use Rattle.lines.specs.LineFaults.{typeIs, shapeFault, stackOf, commonFault, fieldFault, fieldIn, valuesFault, digitsIn, periodOn}

@@ -5,7 +5,7 @@ use mathlib.Core.Path.{_≡_}
 use mathlib.Core.Logic.{_⊎_}
 use mathlib.Core.List.{List}
 use mathlib.Core.Bool.{Bool, true, false, _&&_, _||_}
-use lib.Dec.{leb}
+use lib.Dec.{eqb, leb}
 use lib.ListN.{length, getD}
 use Rattle.columns.specs.Bytes.{isBlank, isPrintable, all}
 use Rattle.columns.specs.declared.Field.the-variants.{Blank, Number}
@@ -44,6 +44,6 @@ pub data Shows (facility line : List ℕ) : ℕ → Type 0 where
   -- an idle hour
   heatGiven : typeIs Operation line ≡ true → timeIn line ≡ Number 0 → (fieldIn heatRate line ≡ Blank → ⊥) → Shows facility line 47
 
--- the numbers of the line checks: those of the rows, 1 (the whole file) and 10 (a line that is missing) lie in 1 to 10 or 43 to 49
+-- the numbers of the line checks: 1 to 10, of which 1 is of the whole file and 10 of a line that is missing, 43 and 47
 abbrev pub ofLineChecks : ℕ → Bool
-ofLineChecks number = (leb 1 number && leb number 10) || (leb 43 number && leb number 49)
+ofLineChecks number = (leb 1 number && leb number 10) || eqb number 43 || eqb number 47

@@ -23,7 +23,7 @@ use Rattle.layout.specs.LayoutLaws.{in-range-true, true-in-range, true-within}
 use Rattle.layout.specs.ValueLaws.{step-of}
 use Rattle.layout.specs.declared.RecordType.{RecordType}
 use Rattle.layout.specs.declared.RecordType.the-variants.{Facility, So2Concentration, VolumetricFlow, Operation}
-use Rattle.layout.specs.declared.Value.{Value}
+use Rattle.layout.specs.declared.values.Value.{Value}
 use Rattle.exact.specs.Faults.{_orElse_, unless}
 use Rattle.lines.specs.LineFaults.{typeIs, shapeFault, stackOf, stackFault, commonFault, fieldFault, fieldIn, valuesFault, digitsIn}
 use Rattle.lines.specs.LineFaults.{periodOn, facilityFault, facilityLine, risingFault, hourOn, datedFault, hourFault, hourIn, hourLine}

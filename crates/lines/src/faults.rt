@@ -2,7 +2,8 @@
 use crate::shape;
 use columns::Field;
 use layout::RecordType;
-use layout::Value;
+use layout::values;
+use layout::values::Value;
 ghost use mathlib.Core.Path.{_≡_};
 ghost use Prim.Native.Nat.{_+_, _-_, _≤_};
 ghost use lib.ListN.{length};
@@ -56,10 +57,10 @@ pub fn field_fault(v: Value, field: Field) -> u64
 {
     match field {
         Field::Number(k) => {
-            if !layout::in_range(v, k) {
+            if !values::in_range(v, k) {
                 return 9;
             }
-            if !layout::whole_steps(v, k) {
+            if !values::whole_steps(v, k) {
                 return 43;
             }
             0

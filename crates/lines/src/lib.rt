@@ -5,6 +5,7 @@ pub mod shape;
 
 use calendar::QuarterHour;
 use layout::RecordType;
+use layout::values;
 ghost use mathlib.Core.Path.{_≡_};
 ghost use Prim.Native.Nat.{_≤_};
 ghost use lib.ListN.{length};
@@ -43,12 +44,12 @@ pub fn facility_line(rest: &[u8]) -> FacilityLine
     if columns::all_blank(&line[faults::STACK_FROM..faults::STACK_TO]) {
         return FacilityLine::Faulty(5);
     }
-    let year = faults::digits_in(line, layout::YEAR);
-    if !layout::within(layout::YEAR, year) {
+    let year = faults::digits_in(line, values::YEAR);
+    if !values::within(values::YEAR, year) {
         return FacilityLine::Faulty(6);
     }
-    let quarter = faults::digits_in(line, layout::QUARTER);
-    if !layout::within(layout::QUARTER, quarter) {
+    let quarter = faults::digits_in(line, values::QUARTER);
+    if !values::within(values::QUARTER, quarter) {
         return FacilityLine::Faulty(6);
     }
     FacilityLine::Of(Period { year, quarter })

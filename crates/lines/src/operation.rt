@@ -4,6 +4,7 @@ use crate::Period;
 use crate::faults;
 use columns::Field;
 use layout::RecordType;
+use layout::values;
 ghost use mathlib.Core.Path.{_≡_};
 ghost use Prim.Native.Nat.{_≤_};
 ghost use lib.ListN.{length};
@@ -39,7 +40,7 @@ fn operating_fault(line: &[u8], date: &[u8]) -> u64
     if dated != 0 {
         return dated;
     }
-    faults::value_fault(line, RecordType::Operation, layout::HEAT_RATE)
+    faults::value_fault(line, RecordType::Operation, values::HEAT_RATE)
 }
 
 // What a fault leaves to say of an hour that operates or is idle.
@@ -57,14 +58,14 @@ fn timed_line(line: &[u8], date: &[u8], hour: u64) -> OperationLine
     requires { ⌜ length (now line) ≡ lengthOf RecordType.Operation ⌝ }
     ensures { λ r. ⌜ r ≡ operationOf (timedFault (now (date .entry)) (now (line .entry))) hour (now (line .entry)) ⌝ }
 {
-    let v = layout::LISTED_TIME;
+    let v = values::LISTED_TIME;
     let time = columns::read_number(line, v.start, v.width, v.decimals);
     let fault = faults::field_fault(v, time);
     if fault != 0 {
         return OperationLine::Faulty(fault);
     }
     if columns::number_of(time) == 0 {
-        let v = layout::HEAT_RATE;
+        let v = values::HEAT_RATE;
         let heat = columns::read_number(line, v.start, v.width, v.decimals);
         return said(idle_fault(heat), OperationLine::Idle(hour));
     }

@@ -4,6 +4,7 @@ use formulas::hour::Hour;
 use formulas::hour::Readings;
 use layout::RecordType;
 use layout::Shape;
+use layout::values;
 use totals::Quarter;
 ghost use mathlib.Core.Path.{_≡_};
 ghost use Prim.Native.Nat.{_<_};
@@ -48,7 +49,7 @@ pub fn operating_from(file: &[u8], s: Shape, p: usize) -> ListedHour
     ListedHour { place, time: 0 }
 }
 
-// ListedHour hour k, from 0, of a file of a shape whose lines are right; `at` is its 300 line.
+// Operating hour k, from 0, of a file of a shape whose lines are right; `at` is its 300 line.
 pub fn hour(file: &[u8], s: Shape, k: usize, at: ListedHour) -> Hour
     requires { ⌜ Standing (now file) s × (k < s .hours) × Stands (now file) s RecordType.Operation k (at .place)
         × (at ≡ listedHour (now file) s (at .place)) ⌝ }
@@ -60,7 +61,7 @@ pub fn hour(file: &[u8], s: Shape, k: usize, at: ListedHour) -> Hour
             so2: value_in(file, s, RecordType::So2Concentration, k, 0),
             nox: value_in(file, s, RecordType::NoxConcentration, k, 0),
             co2: value_in(file, s, RecordType::Co2Concentration, k, 0),
-            flow: layout::thousands_of(value_in(file, s, RecordType::VolumetricFlow, k, 0)),
+            flow: values::thousands_of(value_in(file, s, RecordType::VolumetricFlow, k, 0)),
             fc: value_in(file, s, RecordType::NoxRate, k, 0),
         },
         figures: Figures {

@@ -11,7 +11,7 @@ use lib.Ieee.Positive.{num, den, den-pos}
 use Rattle.exact.specs.Fraction.{Positive}
 use Rattle.layout.specs.Layout.{inRange}
 use Rattle.layout.specs.LayoutLaws.{in-range-true}
-use Rattle.layout.specs.declared.Value.{Value}
+use Rattle.layout.specs.declared.values.Value.{Value}
 use Rattle.sheet.specs.Sheet.{valueSize}
 use Rattle.recorder.specs.Recording.{usable, unitsIn, columnOf, recordingUnit, columnNumber}
 use Rattle.recorder.specs.Parts.{floatScale, PartsOf, UnitRoom, channelRow}

@@ -10,7 +10,7 @@ use Rattle.exact.specs.Fraction.{Fraction, Positive, fraction}
 use Rattle.exact.specs.Rounding.{halfUp}
 use Rattle.exact.specs.Sums.{totalOf}
 use Rattle.layout.specs.Layout.{inRange, so2Ppm, noxPpm, co2Percent, flowScfh}
-use Rattle.layout.specs.declared.Value.{Value}
+use Rattle.layout.specs.declared.values.Value.{Value}
 use Rattle.formulas.specs.Hour.{tenth, flowUnit}
 use Rattle.sheet.specs.Sheet.{wordOf, so2Kind, noxKind, co2Kind, flowKind}
 use Rattle.recorder.specs.declared.RecorderReading.{RecorderReading}

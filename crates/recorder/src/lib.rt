@@ -1,5 +1,6 @@
 // An hour as a recorder hands it over, made into words of the sheet: each reading rounded half up from the exact value of its float.
-use layout::Value;
+use layout::values;
+use layout::values::Value;
 ghost use mathlib.Core.Path.{_≡_};
 ghost use Prim.Native.Nat.{_*_, _≤_, _<_, _^_};
 ghost use Rattle.recorder.specs.Recording.{substitutedIn, recordedOf};
@@ -128,19 +129,19 @@ fn channel_row(c: Channel) -> ChannelRow
 {
     match c {
         Channel::So2 => ChannelRow {
-            column: layout::SO2_PPM,
+            column: values::SO2_PPM,
             unit: TENTH,
         },
         Channel::Nox => ChannelRow {
-            column: layout::NOX_PPM,
+            column: values::NOX_PPM,
             unit: TENTH,
         },
         Channel::Co2 => ChannelRow {
-            column: layout::CO2_PERCENT,
+            column: values::CO2_PERCENT,
             unit: TENTH,
         },
         Channel::Flow => ChannelRow {
-            column: layout::FLOW_SCFH,
+            column: values::FLOW_SCFH,
             unit: THOUSAND,
         },
     }
@@ -177,7 +178,7 @@ fn float_tried(c: Channel, x: f64) -> Tried
     }
     let row = channel_row(c);
     let value = row.column.step * count_at(p, row.unit);
-    if !layout::in_range(row.column, value) {
+    if !values::in_range(row.column, value) {
         return Tried {
             fault: 46,
             value: 0,

@@ -28,7 +28,7 @@ use Rattle.layout.specs.Layout.{
 use Rattle.layout.specs.LayoutLaws.{length-least, date-fits}
 use Rattle.layout.specs.ValueLaws.{ValueInside, value-inside}
 use Rattle.totals.specs.declared.Quarter.{Quarter}
-use Rattle.layout.specs.declared.Value.{Value}
+use Rattle.layout.specs.declared.values.Value.{Value}
 use Rattle.formulas.specs.declared.hour.Hour.{Hour}
 use Rattle.layout.specs.declared.RecordType.{RecordType}
 use Rattle.layout.specs.declared.RecordType.the-variants.{Facility, QuarterTotals}

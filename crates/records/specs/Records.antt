@@ -5,7 +5,7 @@ use lib.ListN.{replicate}
 use Rattle.columns.specs.Columns.{put}
 use Rattle.columns.specs.Written.{digitsOf, written}
 use Rattle.layout.specs.Layout.{typeStart, typeDigits, stackStart, yearDigits, quarterDigit, lengthOf, dateColumn, scfhOf, valuesOf}
-use Rattle.layout.specs.declared.Value.{Value}
+use Rattle.layout.specs.declared.values.Value.{Value}
 use Rattle.layout.specs.declared.RecordType.{RecordType}
 use Rattle.layout.specs.declared.RecordType.the-variants.{Facility, So2Concentration, NoxConcentration, Co2Concentration, VolumetricFlow, Operation}
 use Rattle.layout.specs.declared.RecordType.the-variants.{QuarterTotals, So2Mass, NoxRate, Co2Mass}

@@ -2,6 +2,7 @@
 use formulas::hour::Hour;
 use layout::RecordType;
 use layout::Shape;
+use layout::values;
 use totals::Quarter;
 ghost use mathlib.Core.Path.{_≡_};
 ghost use Prim.Native.Nat.{_+_, _≤_, _<_};
@@ -47,8 +48,8 @@ fn facility_record(line: &mut [u8], name: &[u8], year: u64, quarter: u64)
     ensures { λ _. ⌜ now (line .exit) ≡ facilityRecord year quarter (now (name .entry)) ⌝ }
 {
     write_heading(line, name, RecordType::Facility);
-    filling::write_digits(line, layout::YEAR.start, layout::YEAR.width, year);
-    filling::write_digits(line, layout::QUARTER.start, layout::QUARTER.width, quarter);
+    filling::write_digits(line, values::YEAR.start, values::YEAR.width, year);
+    filling::write_digits(line, values::QUARTER.start, values::QUARTER.width, quarter);
 }
 
 // The values of an hour in its record of a type, and zeros behind them.
@@ -61,7 +62,7 @@ fn hour_values(t: RecordType, h: Hour) -> [u64; layout::MOST_VALUES]
         RecordType::So2Concentration => [h.readings.so2, 0, 0, 0],
         RecordType::NoxConcentration => [h.readings.nox, 0, 0, 0],
         RecordType::Co2Concentration => [h.readings.co2, 0, 0, 0],
-        RecordType::VolumetricFlow => [layout::scfh_of(h.readings.flow), 0, 0, 0],
+        RecordType::VolumetricFlow => [values::scfh_of(h.readings.flow), 0, 0, 0],
         RecordType::Operation => [h.time, h.figures.heat, 0, 0],
         RecordType::QuarterTotals => [0, 0, 0, 0],
         RecordType::So2Mass => [h.figures.so2, 0, 0, 0],

@@ -2,6 +2,7 @@
 // and 32 are here; the writer says in which order they refuse.
 use formulas::hour::Readings;
 use layout::Shape;
+use layout::values;
 ghost use mathlib.Core.Path.{_≡_};
 ghost use Prim.Native.Nat.{_+_, _*_, _≤_, _<_};
 ghost use lib.ListN.{length, getD};
@@ -95,7 +96,7 @@ pub fn recorded_readings(h: SheetHour) -> Readings
         so2: h.so2,
         nox: h.nox,
         co2: h.co2,
-        flow: layout::thousands_of(h.scfh),
+        flow: values::thousands_of(h.scfh),
         fc: h.fc,
     }
 }
@@ -115,8 +116,8 @@ pub fn shape_of(sheet: &[u32]) -> Shape
 pub fn heading_holds(name: &[u8], year: u64, quarter: u64) -> bool
     ensures { λ r. ⌜ r ≡ headingHolds year quarter (now (name .entry)) ⌝ }
 {
-    layout::within(layout::YEAR, year)
-        & layout::within(layout::QUARTER, quarter)
+    values::within(values::YEAR, year)
+        & values::within(values::QUARTER, quarter)
         & !columns::all_blank(name)
         & columns::all_printable(name)
 }
@@ -149,10 +150,10 @@ pub fn hour_holds(below: u64, from: u64, h: SheetHour) -> bool
 pub fn readings_hold(h: SheetHour) -> bool
     ensures { λ r. ⌜ r ≡ readingsHold h ⌝ }
 {
-    layout::within(layout::TIME_HOURS, h.time)
-        & layout::within(layout::SO2_PPM, h.so2)
-        & layout::within(layout::NOX_PPM, h.nox)
-        & layout::within(layout::CO2_PERCENT, h.co2)
-        & layout::within(layout::FLOW_SCFH, h.scfh)
-        & layout::within(layout::F_FACTOR, h.fc)
+    values::within(values::TIME_HOURS, h.time)
+        & values::within(values::SO2_PPM, h.so2)
+        & values::within(values::NOX_PPM, h.nox)
+        & values::within(values::CO2_PERCENT, h.co2)
+        & values::within(values::FLOW_SCFH, h.scfh)
+        & values::within(values::F_FACTOR, h.fc)
 }

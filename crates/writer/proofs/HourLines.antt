@@ -13,7 +13,8 @@ use lib.Seq.{drop-append-le, drop-cons, drop-drop, ext-getD}
 use Rattle.exact.specs.Logic.{mapped-at}
 use Rattle.columns.specs.Columns.{put}
 use Rattle.columns.specs.ColumnsLaws.{put-length, put-behind}
-use Rattle.layout.specs.Layout.{recordOf, order, rankOf, hourly, keepHourly, lengthOf, stackWidth, countOf, bytesOf, frontOf, offsetOf, reportLength, dateColumn, shape}
+use Rattle.layout.specs.Layout.{stackWidth, shape, recordOf, order, lengthOf, dateColumn, rankOf, keepHourly, hourly}
+use Rattle.layout.specs.Layout.{countOf, bytesOf, frontOf, offsetOf, reportLength}
 use Rattle.layout.specs.LayoutLaws.{in-order}
 use Rattle.layout.specs.PlaceLaws.{line-inside}
 use Rattle.layout.specs.RunLaws.{once-type, in-run, hourly-dated, listed-dated, once-or-dated, dated-count, keep-dated}

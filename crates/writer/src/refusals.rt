@@ -1,5 +1,6 @@
 // The refusals of the writer, 31 to 34, decided before the first byte is written.
 use formulas::hour::Figures;
+use layout::values;
 use sheet::SheetHour;
 ghost use mathlib.Core.Path.{_≡_};
 ghost use Rattle.sheet.specs.Sheet.{sheetHourCount};
@@ -10,10 +11,10 @@ ghost use Rattle.writer.specs.OnePass.{hourRefusal, firstTried, refusalF
 fn figures_hold(f: Figures) -> bool
     ensures { λ r. ⌜ r ≡ figuresHold f ⌝ }
 {
-    layout::within(layout::HEAT_RATE, f.heat)
-        & layout::within(layout::SO2_RATE, f.so2)
-        & layout::within(layout::NOX_RATE, f.nox)
-        & layout::within(layout::CO2_RATE, f.co2)
+    values::within(values::HEAT_RATE, f.heat)
+        & values::within(values::SO2_RATE, f.so2)
+        & values::within(values::NOX_RATE, f.nox)
+        & values::within(values::CO2_RATE, f.co2)
 }
 
 // 32 or 33 for an hour's values; 0 where they hold.

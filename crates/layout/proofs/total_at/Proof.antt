@@ -2,7 +2,7 @@
 use mathlib.Core.Path.{refl}
 use native.Mathlib.Omega.{arith}
 use Rattle.layout.specs.declared.RecordType.the-variants.{QuarterTotals}
-use Rattle.layout.proofs.Values.{nth, last-value}
+use Rattle.layout.proofs.RecordValues.{nth, last-value}
 use Rattle.layout.proofs.total_at.Statement.{statement}
 use Rattle.layout.proofs.total_at.Tie as tie
 

@@ -5,7 +5,7 @@ use native.Mathlib.Omega.{arith}
 use Rattle.layout.specs.Layout.{valueCount, valueAt}
 use Rattle.layout.specs.declared.RecordType.the-variants.{Facility, So2Concentration, NoxConcentration, Co2Concentration}
 use Rattle.layout.specs.declared.RecordType.the-variants.{VolumetricFlow, Operation, So2Mass, NoxRate, Co2Mass}
-use Rattle.layout.proofs.Values.{nth, last-value}
+use Rattle.layout.proofs.RecordValues.{nth, last-value}
 use Rattle.layout.proofs.value_at.Statement.{statement}
 use Rattle.layout.proofs.value_at.Tie as tie
 

@@ -6,8 +6,8 @@ use native.Mathlib.Omega.{arith}
 use lib.Dec.{eqb}
 use borrow.Author.Tests.{eq-eqb}
 use borrow.Author.Needs.{needs}
-use Rattle.layout.proofs.whole_steps.Statement.{statement}
-use Rattle.layout.proofs.whole_steps.Tie as tie
+use Rattle.layout.proofs.values.whole_steps.Statement.{statement}
+use Rattle.layout.proofs.values.whole_steps.Tie as tie
 
 step-one : (step k : ℕ) → step ≡ 1 → true ≡ eqb (k % step) 0
 step-one step k e = let whole : k % step ≡ 0 = rw e (omega arith) in sym (eq-eqb _ _ whole)

@@ -1,8 +1,8 @@
 -- What divides is flow's step.
 use mathlib.Core.Path.{refl}
 use borrow.Author.Needs.{needs}
-use Rattle.layout.proofs.thousands_of.Statement.{statement}
-use Rattle.layout.proofs.thousands_of.Tie as tie
+use Rattle.layout.proofs.values.thousands_of.Statement.{statement}
+use Rattle.layout.proofs.values.thousands_of.Tie as tie
 
 div-result : tie.Need-div-result
 div-result c = search needs

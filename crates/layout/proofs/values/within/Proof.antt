@@ -3,8 +3,8 @@ use mathlib.Core.Path.{ap₂}
 use mathlib.Core.Bool.{_&&_}
 use borrow.Author.Needs.{needs}
 use Rattle.layout.specs.Layout.{within}
-use Rattle.layout.proofs.within.Statement.{statement}
-use Rattle.layout.proofs.within.Tie as tie
+use Rattle.layout.proofs.values.within.Statement.{statement}
+use Rattle.layout.proofs.values.within.Tie as tie
 
 in-range-requires : tie.Need-in-range-requires
 in-range-requires c κs = search needs

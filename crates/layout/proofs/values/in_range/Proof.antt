@@ -1,7 +1,7 @@
 -- The two comparisons are the test's.
 use mathlib.Core.Path.{refl}
-use Rattle.layout.proofs.in_range.Statement.{statement}
-use Rattle.layout.proofs.in_range.Tie as tie
+use Rattle.layout.proofs.values.in_range.Statement.{statement}
+use Rattle.layout.proofs.values.in_range.Tie as tie
 
 returns : tie.Need-returns
 returns c = refl
