@@ -19,8 +19,8 @@ use crate::random::Random;
 pub use float_hours::FloatHour;
 pub use years::Joining;
 
-/// Makes the cases of one written report.
-type Group = fn(&mut Random, usize) -> Vec<Case>;
+/// A family makes what its given turn asks for.
+type Family<T> = fn(&mut Random, usize) -> T;
 
 /// Where the random numbers of files with idle hours start: no other case comes
 /// to so high a part.
@@ -39,7 +39,8 @@ pub fn cases(seed: u64, count: usize) -> Vec<Case> {
         let random = &mut Random::branch(seed, 4 * number as u64 + 1);
         cases.push(sheets::sheet(random, number));
     }
-    let groups: [(usize, Group); 3] = [(40, quarters::small), (85, quarters::middle), (170, quarters::full)];
+    let groups: [(usize, Family<Vec<Case>>); 3] =
+        [(40, quarters::small), (85, quarters::middle), (170, quarters::full)];
     for (part, (share, group)) in groups.into_iter().enumerate() {
         for number in 0..count.div_ceil(share) {
             let random = &mut Random::branch(seed, 4 * (1_000_000 * part + number) as u64 + 2);
@@ -85,7 +86,7 @@ fn distinct(random: &mut Random, count: usize) -> Vec<u64> {
 
 /// The family with this number, and its turn. In every round of all families
 /// each has as many turns as its share.
-fn family_of<F: Copy>(families: &[(F, usize)], number: usize) -> (F, usize) {
+fn family_of<T>(families: &[(Family<T>, usize)], number: usize) -> (Family<T>, usize) {
     let shares: usize = families.iter().map(|(_, share)| share).sum();
     let (round, mut place) = (number / shares, number % shares);
     let mut index = 0;

@@ -1,12 +1,16 @@
 //! What the cases of a seed contain: every answer often enough, in any hour,
 //! and the same bytes each time.
 
+#[path = "coverage/files.rs"]
+mod files;
+#[path = "coverage/idle_hours.rs"]
+mod idle_hours;
 #[path = "support/numbers.rs"]
 mod numbers;
 
+use files::*;
 use numbers::{every_size, numbers, sizes_in, Name, Size};
 use second::cases::{decode, Answering, Case, FILL};
-use second::check::{check, Answer, Fault};
 use second::figures::{Figure, Readings};
 use second::generate::{cases, tight};
 use second::layout::*;
@@ -14,13 +18,6 @@ use second::list::{count, number_of};
 use second::report::place;
 use second::write::{word, write, Order, WORDS};
 use std::collections::BTreeMap;
-use std::ops::RangeInclusive;
-use std::sync::LazyLock;
-
-const COUNT: usize = 1_700;
-
-/// The cases of seed 1.
-static CASES: LazyLock<Vec<Case>> = LazyLock::new(|| cases(1, COUNT));
 
 #[test]
 fn every_refusal_occurs_often() {
@@ -93,58 +90,6 @@ fn cases_are_well_formed_and_spread_over_the_hours() {
     assert!(first.iter().chain(&later).all(|&times| times >= 10), "{first:?} {later:?}");
 }
 
-/// The files of seed 1, each with the number and line of its refusal, both 0
-/// for an acceptance.
-fn files() -> impl Iterator<Item = (&'static [u8], u32, usize)> {
-    CASES.iter().filter_map(|case| match case {
-        Case::File(bytes) => {
-            let (number, line) = refusal(bytes);
-            Some((bytes.as_slice(), number, line))
-        }
-        _ => None,
-    })
-}
-
-fn refusal(file: &[u8]) -> (u32, usize) {
-    match check(file) {
-        Answer::Accepted { .. } => (0, 0),
-        Answer::Refused(Fault { number, line }) => (number, line),
-    }
-}
-
-/// The lines of a file, the last one empty if the file ends in a line's end.
-fn lines_of(file: &[u8]) -> Vec<&[u8]> {
-    file.split(|&byte| byte == b'\n').collect()
-}
-
-/// The columns of a line, nothing if it does not reach so far.
-fn text(line: &[u8], columns: Columns) -> &[u8] {
-    line.get(columns.0 - 1..columns.0 - 1 + columns.1).unwrap_or_default()
-}
-
-fn is_listed(line: &[u8]) -> bool {
-    line.starts_with(R300.kind)
-}
-
-/// The time on a 300 line.
-fn time(line: &[u8]) -> Option<u128> {
-    read_number(text(line, TIME.columns), TIME.decimals).filter(|_| is_listed(line))
-}
-
-fn is_idle(line: &[u8]) -> bool {
-    time(line) == Some(0)
-}
-
-fn is_operating(line: &[u8]) -> bool {
-    time(line).is_some_and(|time| time > 0)
-}
-
-/// Where the lines of the operating hours in a block of `HOURLY` stand.
-fn operating_lines(lines: &[&[u8]], block: usize) -> Vec<usize> {
-    let operating = |line: &[u8]| line.starts_with(HOURLY[block].kind) && !is_idle(line);
-    (0..lines.len()).filter(|&index| operating(lines[index])).collect()
-}
-
 /// The columns of flow on a line, if it is a whole 220 line.
 fn flow_columns(line: &[u8]) -> Option<&[u8]> {
     let whole = line.starts_with(R220.kind) && line.len() == R220.length;
@@ -177,17 +122,6 @@ fn evened(file: &[u8]) -> Vec<u8> {
         }
     }
     lines.join(&b'\n')
-}
-
-/// How often there was each number.
-type Times = BTreeMap<u32, usize>;
-
-fn add(times: &mut Times, number: u32) {
-    *times.entry(number).or_default() += 1;
-}
-
-fn sum(times: &Times, numbers: RangeInclusive<u32>) -> usize {
-    times.range(numbers).map(|(_, times)| times).sum()
 }
 
 /// Flow that is no whole thousand, whatever is left over, in first and later
@@ -261,264 +195,6 @@ fn flow_words_that_are_no_whole_thousand() {
     for end in [(500_000_000, 0), (500_000_001, 32), (500_001_000, 32)] {
         assert!(ends[&end] >= 3, "{ends:?}");
     }
-}
-
-/// How often there was each sort of thing.
-type Sorts = BTreeMap<&'static str, usize>;
-
-/// Each of these sorts was there so often at least.
-fn assert_sorts(sorts: &Sorts, wanted: &[&str], least: usize) {
-    for sort in wanted {
-        assert!(sorts.get(sort).is_some_and(|&times| times >= least), "{sort}: {sorts:?}");
-    }
-}
-
-/// Good files with idle hours before, between and behind operating ones, with
-/// idle ones alone, with many, and with all hours of a quarter.
-#[test]
-fn good_files_with_idle_hours() {
-    let mut sorts = Sorts::new();
-    for (file, ..) in files().filter(|&(_, number, _)| number == 0) {
-        let listed: Vec<&[u8]> = lines_of(file).into_iter().filter(|line| is_listed(line)).collect();
-        let idle: Vec<bool> = listed.iter().map(|line| is_idle(line)).collect();
-        let operating = idle.iter().filter(|&&idle| !idle).count();
-        let inner = idle.iter().skip_while(|&&idle| idle).skip_while(|&&idle| !idle);
-        for (sort, has) in [
-            ("first", operating > 0 && idle[0]),
-            ("between", inner.clone().any(|&idle| !idle)),
-            ("last", operating > 0 && idle[idle.len() - 1]),
-            ("alone", operating == 0 && !idle.is_empty()),
-            ("many", idle.len() >= 20 + operating),
-            ("all hours of a quarter", idle.len() >= 2_160 && operating > 0),
-        ] {
-            *sorts.entry(sort).or_default() += usize::from(has);
-        }
-    }
-    assert_sorts(&sorts, &["first", "between", "last", "alone", "many"], 5);
-    assert_sorts(&sorts, &["all hours of a quarter"], 1);
-}
-
-/// The heat columns of idle hours, where they are not blank.
-#[test]
-fn heat_of_idle_hours() {
-    let mut sorts = Sorts::new();
-    for (file, number, line) in files() {
-        let Some(&there) = lines_of(file).get(line.wrapping_sub(1)) else { continue };
-        let heat = text(there, HEAT.columns);
-        let blank_before = heat.iter().take_while(|&&byte| byte == b' ').count();
-        let blank_behind = heat.iter().rev().take_while(|&&byte| byte == b' ').count();
-        let sort = match (number, read_number(heat, HEAT.decimals)) {
-            (47, Some(0)) => "zero",
-            (47, Some(_)) => "number",
-            (47, None) if blank_before == HEAT.columns.1 - 1 => "last column",
-            (47, None) if blank_behind == HEAT.columns.1 - 1 => "first column",
-            (47, None) if blank_before + blank_behind == 0 => "every column",
-            (47, None) => "malformed",
-            (4, _) if is_idle(there) && heat.iter().any(|byte| !(32..=126).contains(byte)) => "odd byte",
-            _ => continue,
-        };
-        *sorts.entry(sort).or_default() += 1;
-    }
-    assert_sorts(&sorts, &["zero", "number", "every column", "malformed"], 5);
-    assert_sorts(&sorts, &["first column", "last column", "odd byte"], 3);
-}
-
-/// Times and dates that 300 lines must not have.
-#[test]
-fn times_and_dates_of_listed_hours() {
-    let mut sorts = Sorts::new();
-    for (file, number, line) in files() {
-        let lines = lines_of(file);
-        let Some(&there) = lines.get(line.wrapping_sub(1)).filter(|line| is_listed(line)) else { continue };
-        let (hours, heat) = (text(there, TIME.columns), text(there, HEAT.columns));
-        let (date, before) = (text(there, DATE_300), lines[line - 2]);
-        let date_before = text(before, DATE_300);
-        let digits = date.iter().all(u8::is_ascii_digit);
-        let sort = match number {
-            8 if is_operating(there) && is_blank(heat) => "blank heat",
-            8 if is_operating(there) => "broken heat",
-            8 if is_blank(hours) && is_blank(heat) => "blank time and heat",
-            8 if is_blank(hours) => "blank time",
-            8 if is_blank(heat) => "broken time and blank heat",
-            8 => "broken time",
-            9 if is_blank(heat) => "large time and blank heat",
-            9 if read_number(heat, HEAT.decimals).is_none() => "large time and broken heat",
-            9 => "large time",
-            6 if !digits && is_idle(there) => "no date of an idle hour",
-            6 if !digits => "no date of an operating hour",
-            6 if !is_listed(before) => "first date outside",
-            6 if date == date_before && is_idle(before) && is_idle(there) => "idle twice",
-            6 if date == date_before && is_idle(before) => "idle, then operating",
-            6 if date == date_before && is_idle(there) => "operating, then idle",
-            6 if date < date_before && is_idle(before) => "earlier than an idle hour",
-            6 if date < date_before => "earlier than an operating hour",
-            6 => "later date outside",
-            _ => continue,
-        };
-        *sorts.entry(sort).or_default() += 1;
-    }
-    let times = [
-        "blank heat",
-        "broken heat",
-        "blank time and heat",
-        "blank time",
-        "broken time and blank heat",
-        "broken time",
-        "large time and blank heat",
-        "large time and broken heat",
-        "large time",
-    ];
-    let dates = [
-        "no date of an idle hour",
-        "no date of an operating hour",
-        "first date outside",
-        "later date outside",
-        "idle twice",
-        "idle, then operating",
-        "operating, then idle",
-        "earlier than an idle hour",
-        "earlier than an operating hour",
-    ];
-    assert_sorts(&sorts, &times, 3);
-    assert_sorts(&sorts, &dates, 3);
-}
-
-/// Lines with positive time that are surplus or of another rank; other lines
-/// among 300 lines, and these among others; files that end there.
-#[test]
-fn ranks_among_listed_hours() {
-    let mut sorts = Sorts::new();
-    for (file, number, line) in files() {
-        let lines = lines_of(file);
-        let (Some(&there), true) = (lines.get(line.wrapping_sub(1)), line > 1) else { continue };
-        let before = &lines[..line - 1];
-        let hours = before.iter().filter(|line| line.starts_with(R200.kind)).count();
-        let operating = before.iter().filter(|line| is_operating(line)).count();
-        let behind_listed = is_listed(before[line - 2]);
-        let idle_before = before.iter().any(|line| is_idle(line));
-        let expected = before.get(operating + 1).map_or(&[][..], |line| text(line, DATE_200));
-        let stood_idle = before.iter().any(|line| is_idle(line) && text(line, DATE_300) == expected);
-        let sort = match number {
-            7 if !is_listed(there) => continue,
-            7 if hours == 0 => "operating, without readings",
-            7 if operating == hours && is_blank(text(there, HEAT.columns)) => "surplus, without heat",
-            7 if operating == hours => "surplus",
-            7 if stood_idle => "behind its idle hour",
-            7 => "of another hour",
-            2 if there.starts_with(R200.kind) && behind_listed && hours == 0 => "200 behind idle hours",
-            2 if there.starts_with(R200.kind) && behind_listed => "200 behind 300",
-            2 if there.starts_with(R301.kind) && operating < hours && idle_before => "301 too early",
-            2 if there.starts_with(R310.kind) && behind_listed && idle_before => "310 behind 300",
-            2 if is_idle(there) && hours == 0 => "idle behind the totals of none",
-            2 if is_idle(there) && before[line - 2].starts_with(R301.kind) => "idle behind 301",
-            2 if is_idle(there) => "idle among other lines",
-            10 if !behind_listed => continue,
-            10 if hours == 0 => "end behind idle hours",
-            10 if operating < hours => "end before the last operating hour",
-            10 => "end behind 300",
-            _ => continue,
-        };
-        *sorts.entry(sort).or_default() += 1;
-    }
-    let wanted = [
-        "operating, without readings",
-        "surplus, without heat",
-        "surplus",
-        "behind its idle hour",
-        "of another hour",
-        "200 behind idle hours",
-        "200 behind 300",
-        "301 too early",
-        "310 behind 300",
-        "idle behind the totals of none",
-        "idle behind 301",
-        "idle among other lines",
-        "end behind idle hours",
-        "end before the last operating hour",
-        "end behind 300",
-    ];
-    assert_sorts(&sorts, &wanted, 3);
-}
-
-/// Figures and totals that fail with idle hours before their lines.
-#[test]
-fn figures_and_totals_behind_idle_hours() {
-    let mut times = Times::new();
-    for (file, number, line) in files() {
-        if number > 10 && lines_of(file)[..line].iter().any(|line| is_idle(line)) {
-            add(&mut times, number);
-        }
-    }
-    for number in (11..=14).chain(21..=24) {
-        assert!(times.get(&number).is_some_and(|&times| times >= 5), "{number} {times:?}");
-    }
-}
-
-/// What a look at a 300 line and the one before it finds, apart from its type
-/// and its rank, in the order of the check.
-fn faults_on(lines: &[&[u8]], index: usize) -> Vec<u32> {
-    let line = lines[index];
-    let (date, before) = (text(line, DATE_300), text(lines[index - 1], DATE_300));
-    let late = !is_listed(lines[index - 1]) || date > before;
-    let heat = line.get(HEAT.columns.0 - 1..).unwrap_or_default();
-    [
-        (3, line.len() != R300.length),
-        (4, line.iter().any(|byte| !(32..=126).contains(byte))),
-        (5, text(line, NAME) != text(lines[0], NAME)),
-        (6, !date.iter().all(u8::is_ascii_digit) || !late),
-        (8, time(line).is_none()),
-        (9, time(line).is_some_and(|time| time > 100)),
-        (47, is_idle(line) && !is_blank(heat)),
-        (8, is_operating(line) && read_number(heat, HEAT.decimals).is_none()),
-    ]
-    .into_iter()
-    .filter_map(|(number, found)| found.then_some(number))
-    .collect()
-}
-
-/// The first of two faults on a 300 line is found, whichever they are.
-#[test]
-fn two_faults_on_a_300_line() {
-    let mut pairs = BTreeMap::<(u32, u32), usize>::new();
-    for (file, number, line) in files() {
-        let lines = lines_of(file);
-        if line < 2 || !lines.get(line - 1).is_some_and(|line| is_listed(line)) {
-            continue;
-        }
-        let faults = faults_on(&lines, line - 1);
-        for &other in &faults {
-            *pairs.entry((number, other)).or_default() += 1;
-        }
-        if [3, 4, 5, 8, 9, 47].contains(&number) {
-            assert_eq!(faults.first(), Some(&number));
-        }
-    }
-    for (number, behind) in
-        [(3, &[4, 5, 6, 8, 9, 47][..]), (4, &[5, 6, 8, 9, 47]), (5, &[6, 8, 9, 47]), (6, &[8, 9, 47])]
-            .into_iter()
-            .chain([(9, &[8][..]), (7, &[8])])
-    {
-        for other in behind {
-            assert!(pairs.contains_key(&(number, *other)), "{number} {other} {pairs:?}");
-        }
-    }
-}
-
-/// Readings and figures of the hours of a file whose lines are right.
-fn hours_of(file: &[u8]) -> Vec<(Readings, [u128; 4])> {
-    let lines = lines_of(file);
-    let ranked: Vec<Vec<usize>> = (0..HOURLY.len()).map(|block| operating_lines(&lines, block)).collect();
-    let hour = |rank: usize| {
-        let number = |block: usize, index: usize| {
-            let value = &HOURLY[block].values[index];
-            let text = value.columns.of(lines[ranked[block][rank]]);
-            read_number(text, value.decimals).and_then(|number| value.recorded(number)).unwrap()
-        };
-        let [so2, nox, co2, flow] = [0, 1, 2, 3].map(|block| number(block, 0));
-        let readings = Readings { so2, nox, co2, flow, fc: number(6, 0) };
-        (readings, [number(4, 1), number(5, 0), number(6, 1), number(7, 0)])
-    };
-    (0..ranked[0].len()).map(hour).collect()
 }
 
 /// Heat whose span the readings' values only just miss, at either edge, and the

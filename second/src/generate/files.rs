@@ -3,21 +3,18 @@
 use super::changes::{self, CHANGES};
 use super::damage::damaged;
 use super::edges;
-use super::family_of;
 use super::flows;
 use super::page::Page;
 use super::recorder::{self, bytes, hour_with, readings, report, report_in};
+use super::{family_of, Family};
 use crate::calendar::{hours_in_quarter, is_leap};
 use crate::figures::{Readings, FIGURES};
 use crate::random::Random;
 use crate::report::{Hour, Report};
 use crate::rounding::half_up;
 
-/// A family makes the file of its given turn.
-type Family = fn(&mut Random, usize) -> Vec<u8>;
-
 /// The families and their shares.
-const FAMILIES: [(Family, usize); 24] = [
+const FAMILIES: [(Family<Vec<u8>>, usize); 24] = [
     (honest, 8),
     (edge, 16),
     (tight_edge, 10),

@@ -5,7 +5,7 @@
 //! Floats are patterns of 64 bits. One that is to be near a decimal number is
 //! read from that number's text.
 
-use super::{distinct, family_of};
+use super::{distinct, family_of, Family};
 use crate::layout::Value;
 use crate::random::Random;
 use crate::recorder_words::{record, Outcome};
@@ -29,11 +29,8 @@ impl FloatHour {
     }
 }
 
-/// A family makes the hour of its given turn.
-type Family = fn(&mut Random, usize) -> FloatHour;
-
 /// The families and their shares.
-const FAMILIES: [(Family, usize); 10] = [
+const FAMILIES: [(Family<FloatHour>, usize); 10] = [
     (|random, _| sound(random), 5),
     (half_way_everywhere, 12),
     (at_limit, 8),

@@ -6,9 +6,9 @@ use super::changes::{
 };
 use super::damage::damaged;
 use super::edges;
-use super::family_of;
 use super::page::{is_idle, Page};
 use super::recorder::{self, bytes, rising_hours};
+use super::{family_of, Family};
 use crate::calendar::{eight_digits, hours_in_quarter, moment_of};
 use crate::layout::*;
 use crate::random::Random;
@@ -18,11 +18,8 @@ use crate::rounding::half_up;
 /// The place of the 300 lines in `HOURLY`.
 const BLOCK: usize = 4;
 
-/// A family makes the file of its given turn.
-type Family = fn(&mut Random, usize) -> Vec<u8>;
-
 /// The families and their shares.
-const FAMILIES: [(Family, usize); 16] = [
+const FAMILIES: [(Family<Vec<u8>>, usize); 16] = [
     (good, 30),
     (wrong_figure, 48),
     (wrong_total, 24),

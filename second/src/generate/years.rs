@@ -4,7 +4,7 @@
 //! Hours and the three sums are the amounts of a quarter: a record has them
 //! behind its year and quarter, an answer before its mean.
 
-use super::{distinct, family_of};
+use super::{distinct, family_of, Family};
 use crate::random::Random;
 use crate::year_to_date::{join, Outcome, ANSWER, MOST_HOURS, MOST_SUM, RECORD};
 
@@ -42,11 +42,8 @@ impl Joining {
     }
 }
 
-/// A family makes the calls of its given turn.
-type Family = fn(&mut Random, usize) -> Vec<Joining>;
-
 /// The families and their shares.
-const FAMILIES: [(Family, usize); 10] = [
+const FAMILIES: [(Family<Vec<Joining>>, usize); 10] = [
     (|random, turn| vec![sound_in_turn(random, turn)], 5),
     (|random, turn| vec![sum_at_limit(random, turn)], 4),
     (|random, turn| vec![hours_at_limit(random, turn)], 4),
