@@ -30,7 +30,7 @@ pub fn same_bytes(a: &[u8], b: &[u8]) -> bool
     fine
 }
 
-pub fn all_printable(bytes: &[u8]) -> bool
+fn block_printable(bytes: &[u8]) -> bool
     ensures { λ r. ⌜ r ≡ all isPrintable (now (bytes .entry)) ⌝ }
 {
     let mut fine = true;
@@ -41,6 +41,27 @@ pub fn all_printable(bytes: &[u8]) -> bool
         i += 1;
     }
     fine
+}
+
+// How many bytes are taken at a time.
+const BLOCK: usize = 16;
+
+// Block by block; the last one ends with the last byte, and may overlap the one before it.
+pub fn all_printable(bytes: &[u8]) -> bool
+    ensures { λ r. ⌜ r ≡ all isPrintable (now (bytes .entry)) ⌝ }
+{
+    if bytes.len() < BLOCK {
+        return block_printable(bytes);
+    }
+    let last = bytes.len() - BLOCK;
+    let mut i = 0;
+    while i < last {
+        if !block_printable(&bytes[i..i + BLOCK]) {
+            return false;
+        }
+        i += BLOCK;
+    }
+    block_printable(&bytes[last..])
 }
 
 pub fn all_blank(bytes: &[u8]) -> bool
