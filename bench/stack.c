@@ -13,7 +13,7 @@ enum { HOURS = EDR_MOST_HOURS, WORDS = EDR_HOUR_WORDS * HOURS, LENGTH = EDR_REPO
 static uint32_t sheet[WORDS];
 static uint8_t report[LENGTH];
 static uint64_t answer[EDR_ANSWER_LENGTH];
-static const uint64_t previous[EDR_YEAR_LENGTH] = {2005, 2, 4344, 9000, 3000000, 29000000};
+static const uint64_t previous[EDR_YEAR_LENGTH] = {2005, 2, 4344, 9000, 3000000, 29000000, 5200};
 static uint64_t record[EDR_YEAR_LENGTH];
 static const uint8_t states[EDR_RECORDER_READINGS] = {EDR_READING_MEASURED, EDR_READING_SUBSTITUTED, EDR_READING_MEASURED, EDR_READING_MEASURED};
 static const double readings[EDR_RECORDER_READINGS] = {250.35, 200.0, 12.25, 20000500.0};

@@ -1,6 +1,7 @@
 /* The check and the writer of quarterly stack reports, the year to date, and hours from a recorder, for C99 and C++11. Link with
    libedr_c.a, which `rt staticlib edr_c` writes to target/staticlib. Behind each pointer are as many elements as the length after it
-   says, and what a call writes to overlaps nothing else that it is lent; else every call takes anything. */
+   says, and what a call writes to overlaps nothing else that it is lent; else every call takes anything. Header and library belong
+   together: the lengths below have grown, and may again. */
 #ifndef EDR_H
 #define EDR_H
 
@@ -15,26 +16,28 @@ enum {
     EDR_MOST_HOURS = 2208,         /* operating hours of the longest quarter */
     EDR_HOUR_WORDS = 6,            /* words of a sheet for an operating hour */
     EDR_NAME_LENGTH = 6,           /* bytes of a stack name */
-    EDR_ANSWER_LENGTH = 5,         /* numbers of an answer */
-    EDR_YEAR_LENGTH = 6,           /* numbers of a record of the year to date */
+    EDR_ANSWER_LENGTH = 6,         /* numbers of an answer */
+    EDR_YEAR_LENGTH = 7,           /* numbers of a record of the year to date */
     EDR_RECORDER_READINGS = 4,     /* readings of an hour from a recorder, in this order: SO2, NOx, CO2, flow */
     EDR_RECORDER_ANSWER_LENGTH = 5 /* numbers of the answer to such an hour */
 };
 
 /* The bytes of a report of so many operating hours and no idle ones. No accepted report has more than that of EDR_MOST_HOURS. */
-#define EDR_REPORT_LENGTH(hours) (64 + 318 * (size_t)(hours))
+#define EDR_REPORT_LENGTH(hours) (75 + 318 * (size_t)(hours))
 
 /* What edr_check returns. */
 enum edr_outcome {
     EDR_REFUSED = 0,         /* answer[0], answer[1]: the refusal's number and line */
-    EDR_ACCEPTED = 1,        /* answer[0] to answer[4]: operating hours, SO2, CO2 and heat in tenths, mean NOx rate in thousandths */
+    EDR_ACCEPTED = 1,        /* answer[0] to answer[5]: operating hours, SO2 tons, CO2 tons and heat in tenths, mean NOx rate in
+                                thousandths, NOx tons in tenths */
     EDR_ANSWER_TOO_SHORT = 2 /* nothing is written: the room is less than EDR_ANSWER_LENGTH */
 };
 
 /* What edr_year_to_date returns. */
 enum edr_year_outcome {
     EDR_YEAR_REFUSED = 0,  /* record[0]: the refusal's number */
-    EDR_YEAR_JOINED = 1,   /* record[0] to record[5]: year, quarter, operating hours, SO2, CO2 and heat in tenths */
+    EDR_YEAR_JOINED = 1,   /* record[0] to record[6]: year, quarter, operating hours, SO2 tons, CO2 tons, heat and NOx tons in
+                              tenths */
     EDR_YEAR_TOO_SHORT = 2 /* nothing is written: less than EDR_YEAR_LENGTH in a record, or EDR_ANSWER_LENGTH in the answer */
 };
 
@@ -100,7 +103,10 @@ enum edr_refusal {
     EDR_REFUSAL_READING_RANGE = 46, /* recorded as SO2 or NOx over 9,999.9, CO2 0.0 or over 100.0, flow over 500,000,000 */
 
     /* a 300 line of the file, tried in the place of heat input's EDR_REFUSAL_FORMAT */
-    EDR_REFUSAL_IDLE_HEAT_NOT_BLANK = 47 /* time 0.00, and heat input that is not blank */
+    EDR_REFUSAL_IDLE_HEAT_NOT_BLANK = 47, /* time 0.00, and heat input that is not blank */
+
+    /* a total of line 301 that differs from the one formed, tried after EDR_REFUSAL_MEAN_NOX_RATE */
+    EDR_REFUSAL_NOX_TOTAL = 48 /* NOx tons: the hours' NOx rate * heat input * time, added up, over 2,000 */
 };
 
 /* The kinds of a sheet's words, in the order in which an hour's words stand, and what their values count. */
@@ -147,7 +153,7 @@ uint64_t edr_write(uint64_t year, uint64_t quarter, const uint8_t *name, size_t 
                    const uint32_t *sheet, size_t words, uint8_t *buffer, size_t room);
 
 /* Adds an accepted quarter, as edr_check answered it, to the previous record of its year, and returns an edr_year_outcome. The
-   previous record is the one that the quarter before gave; for quarter 1, the year and five zeros. Elements of the new record that are
+   previous record is the one that the quarter before gave; for quarter 1, the year and six zeros. Elements of the new record that are
    not filled keep their values. */
 uint64_t edr_year_to_date(const uint64_t *previous, size_t previous_length, const uint64_t *answer, size_t answer_length,
                           uint64_t year, uint64_t quarter, uint64_t *record, size_t room);

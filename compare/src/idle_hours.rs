@@ -39,7 +39,8 @@ pub fn cases() -> Vec<Case> {
 fn report(operates: Operates) -> Report {
     let (operating, idle_hours): (Vec<u32>, Vec<u32>) = (0..HOURS).partition(|&hour| operates(hour));
     let hours = operating.into_iter().map(hour).collect();
-    let mut report = Report { year: 2005, quarter: 3, name: *b"STACK1", hours, idle_hours, totals: [0; 4] };
+    let (year, quarter, name) = (2005, 3, *b"STACK1");
+    let mut report = Report { year, quarter, name, hours, idle_hours, ..Report::default() };
     report.add_up();
     report
 }

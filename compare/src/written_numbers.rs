@@ -1,5 +1,5 @@
 //! Sheets whose reports have each number in columns at its least, at its largest and with each number of digits. All seeds have them.
-//! Each but the full quarter, which has a buffer a byte longer, is tried with one that just holds the report, with two longer ones, and
+//! Each but the full quarters, which have a buffer a byte longer, is tried with one that just holds the report, with two longer ones, and
 //! with one that is a byte too short.
 
 #[path = "../../second/tests/support/numbers.rs"]
@@ -10,10 +10,11 @@ use std::iter::repeat_n;
 use numbers::{every_size, largest_figures, numbers, sizes_in, Name, Number, MOST_HOURS};
 use second::calendar::hours_in_quarter;
 use second::cases::{Case, FILL};
-use second::figures::{Figure, Formula, Readings};
+use second::figures::{Figure, Formula, Readings, FIGURES};
 use second::generate::sheets::words_of;
+use second::generate::tons::MOST_WRITTEN;
 use second::layout::{report_length, FLOW};
-use second::report::{place, Hour};
+use second::report::{nox_mass, place, Hour, NOX_TENTH};
 use second::rounding::span;
 use second::write::{write, Order, WORDS};
 
@@ -23,7 +24,7 @@ const MODEST: Readings = Readings { so2: 10, nox: 10, co2: 100, flow: 1_000, fc:
 /// The largest figures of heat, SO2 and CO2 at once.
 const HEAVIEST: Readings = Readings { so2: 15_000, nox: 99_999, co2: 747, flow: 401_606, fc: 30_000 };
 
-/// A total that takes more hours is left to one full quarter.
+/// A total that takes more hours is left to full quarters: one of the hours above, and one of those with the most NOx.
 const SOME_HOURS: usize = 200;
 
 /// The first and the last year; and quarters whose first or last hour has the least or the largest date of so many digits.
@@ -37,10 +38,10 @@ pub fn cases() -> Vec<Case> {
         orders.extend(with_every_end(&number));
         orders.extend(number.ends().into_iter().filter_map(|end| with_total(&number, end)));
     }
-    let full = order(1999, 4, in_a_row(repeat_n(HEAVIEST, MOST_HOURS)));
-    assert_every_size(orders.iter().chain([&full]));
+    let full = [HEAVIEST, MOST_WRITTEN].map(|hour| order(1999, 4, in_a_row(repeat_n(hour, MOST_HOURS))));
+    assert_every_size(orders.iter().chain(&full));
     let mut cases: Vec<Case> = orders.into_iter().flat_map(in_rooms).collect();
-    cases.push(Case::Write { room: need(&full) + 1, order: full });
+    cases.extend(full.map(|order| Case::Write { room: need(&order) + 1, order }));
     cases
 }
 
@@ -116,26 +117,52 @@ fn with_figure(figure: Figure, number: u128) -> Readings {
     (0..10_000).map(tried).find(has_figure).expect("readings with this figure")
 }
 
-/// A sheet with this total, if the number is one and some hours suffice: hours with the largest figure, and one with the rest.
+/// A sheet with this total, if the number is one and some hours suffice.
 fn with_total(number: &Number, total: u128) -> Option<Order> {
-    let (figure, sum) = match number.name {
-        // 2,000 pounds are a ton; this is the least sum that is rounded to the total.
-        Name::So2Total => (Figure::So2, 1_000 * span(total).low),
-        Name::Co2Total => (Figure::Co2, total),
-        Name::HeatTotal => (Figure::Heat, total),
-        Name::NoxMean => (Figure::Nox, total),
-        _ => return None,
+    // 2,000 pounds are a ton; these are the least sums that are rounded to tons.
+    let readings = match number.name {
+        Name::So2Total => with_sum(Figure::So2, 1_000 * span(total).low),
+        Name::Co2Total => with_sum(Figure::Co2, total),
+        Name::HeatTotal => with_sum(Figure::Heat, total),
+        Name::NoxMean => with_sum(Figure::Nox, total),
+        Name::NoxTons => with_nox(NOX_TENTH / 2 * span(total).low),
+        _ => None,
     };
-    let most = largest_figures()[place(figure)];
-    let before = sum.saturating_sub(1) / most;
-    if before as usize >= SOME_HOURS {
-        return None;
-    }
-    let rest = with_figure(figure, sum - before * most);
-    let readings = repeat_n(with_figure(figure, most), before as usize).chain([rest]);
-    let order = order(2005, 3, in_a_row(readings));
+    let order = order(2005, 3, in_a_row(readings?.into_iter()));
     assert!(number.read_from(&report(&order)).eq([total]), "{:?} {total}", number.name);
     Some(order)
+}
+
+/// Hours with the largest figure, and one with the rest of a sum.
+fn with_sum(figure: Figure, sum: u128) -> Option<Vec<Readings>> {
+    let most = largest_figures()[place(figure)];
+    in_some_hours(sum, most, with_figure(figure, most), |rest| with_figure(figure, rest))
+}
+
+/// Hours with the most NOx, and one with the rest, in millionths of pounds.
+fn with_nox(sum: u128) -> Option<Vec<Readings>> {
+    let figures = FIGURES.map(|figure| figure.of_recorded(&MOST_WRITTEN));
+    in_some_hours(sum, nox_mass(100, &figures), MOST_WRITTEN, |rest| {
+        let of_unit = nox_mass(100, &[1, 0, figures[place(Figure::Nox)], 0]);
+        Readings { flow: least_flow(&MOST_WRITTEN, rest.div_ceil(of_unit)), ..MOST_WRITTEN }
+    })
+}
+
+/// The least flow with such a heat beside the other readings.
+fn least_flow(readings: &Readings, heat: u128) -> u128 {
+    (span(heat).low * readings.fc).div_ceil(200 * readings.co2)
+}
+
+/// As many hours with the most as a sum takes, and one with the rest, unless they are too many.
+fn in_some_hours(
+    sum: u128,
+    most: u128,
+    with_most: Readings,
+    with_rest: impl Fn(u128) -> Readings,
+) -> Option<Vec<Readings>> {
+    let before = sum.saturating_sub(1) / most;
+    let few = (before as usize) < SOME_HOURS;
+    few.then(|| repeat_n(with_most, before as usize).chain([with_rest(sum - before * most)]).collect())
 }
 
 /// The bytes of the order's report.

@@ -43,13 +43,13 @@ fn wrapped(joining: &Joining, outcome: Outcome, expected: &[u64]) -> Option<Answ
         Outcome::Refused => format!("wrapped refusal {}", expected[0]),
         Outcome::TooShort => return None,
     };
-    let &[year, quarter, hours, so2, co2, heat] = joining.previous.first_chunk()?;
-    let previous = edr::YearToDate { year, quarter, hours, so2, co2, heat };
-    let &[hours, so2, co2, heat, nox] = joining.answer.first_chunk()?;
-    let answer = edr::Quarter { hours, so2, co2, heat, nox };
+    let &[year, quarter, hours, so2, co2, heat, nox_tons] = joining.previous.first_chunk()?;
+    let previous = edr::YearToDate { year, quarter, hours, so2, co2, heat, nox_tons };
+    let &[hours, so2, co2, heat, nox, nox_tons] = joining.answer.first_chunk()?;
+    let answer = edr::Quarter { hours, so2, co2, heat, nox, nox_tons };
     let proved = match edr::join(previous, joining.year, joining.quarter, answer) {
-        edr::Joined::Record(edr::YearToDate { year, quarter, hours, so2, co2, heat }) => {
-            format!("wrapped record {:?}", [year, quarter, hours, so2, co2, heat])
+        edr::Joined::Record(edr::YearToDate { year, quarter, hours, so2, co2, heat, nox_tons }) => {
+            format!("wrapped record {:?}", [year, quarter, hours, so2, co2, heat, nox_tons])
         }
         edr::Joined::Refused(number) => format!("wrapped refusal {number}"),
     };

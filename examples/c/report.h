@@ -31,8 +31,8 @@ static bool check_report(uint32_t hours, uint64_t answer[EDR_ANSWER_LENGTH])
         printf("refused %" PRIu64 " %" PRIu64 "\n", answer[0], answer[1]);
         return false;
     }
-    printf("accepted %" PRIu64 " %" PRIu64 " %" PRIu64 " %" PRIu64 " %" PRIu64 "\n",
-           answer[0], answer[1], answer[2], answer[3], answer[4]);
+    printf("accepted %" PRIu64 " %" PRIu64 " %" PRIu64 " %" PRIu64 " %" PRIu64 " %" PRIu64 "\n",
+           answer[0], answer[1], answer[2], answer[3], answer[4], answer[5]);
     return true;
 }
 

@@ -23,8 +23,8 @@ static bool join_quarter(const uint64_t previous[EDR_YEAR_LENGTH], unsigned quar
         printf("refused %" PRIu64 "\n", record[0]);
         return false;
     }
-    printf("year to date %" PRIu64 " %" PRIu64 " %" PRIu64 " %" PRIu64 " %" PRIu64 " %" PRIu64 "\n",
-           record[0], record[1], record[2], record[3], record[4], record[5]);
+    printf("year to date %" PRIu64 " %" PRIu64 " %" PRIu64 " %" PRIu64 " %" PRIu64 " %" PRIu64 " %" PRIu64 "\n",
+           record[0], record[1], record[2], record[3], record[4], record[5], record[6]);
     return true;
 }
 

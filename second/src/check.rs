@@ -3,15 +3,14 @@
 use crate::calendar::{exists, Moment};
 use crate::figures::{Readings, FIGURES};
 use crate::layout::*;
-use crate::report::totals_of;
+use crate::report::{totals_of, Totals, TOTALS};
 use std::fmt;
 
 /// What the check says of a file.
 #[derive(Clone, Debug, PartialEq, Eq)]
 pub enum Answer {
-    /// The operating hours and the totals: SO2, CO2, heat in tenths, the mean
-    /// in thousandths.
-    Accepted { hours: usize, totals: [u128; 4] },
+    /// The operating hours and the totals.
+    Accepted { hours: usize, totals: Totals },
     /// The number of the cause, and the line counted from 1 (0: whole file).
     Refused(Fault),
 }
@@ -26,8 +25,8 @@ pub struct Fault {
 impl fmt::Display for Answer {
     fn fmt(&self, out: &mut fmt::Formatter<'_>) -> fmt::Result {
         match self {
-            Answer::Accepted { hours, totals: [so2, co2, heat, mean] } => {
-                write!(out, "accepted {hours} {so2} {co2} {heat} {mean}")
+            Answer::Accepted { hours, totals: [so2, co2, heat, mean, nox_tons] } => {
+                write!(out, "accepted {hours} {so2} {co2} {heat} {mean} {nox_tons}")
             }
             Answer::Refused(Fault { number, line }) => write!(out, "refused {number} {line}"),
         }
@@ -54,7 +53,7 @@ struct Contents {
     figures: Vec<[u128; 4]>,
     /// The lines of the heat figures: idle hours may stand between them.
     heat_lines: Vec<usize>,
-    totals: [u128; 4],
+    totals: Totals,
     totals_line: usize,
 }
 
@@ -310,6 +309,9 @@ fn read(file: &[u8]) -> Result<Contents, Fault> {
     Ok(contents)
 }
 
+/// The refusals of the totals, in their order on line 301.
+const WRONG_TOTAL: [u32; TOTALS] = [21, 22, 23, 24, 48];
+
 /// Judges the hours in order, and then the totals.
 fn judge(contents: &Contents) -> Result<Answer, Fault> {
     let hours = contents.readings.len();
@@ -321,9 +323,9 @@ fn judge(contents: &Contents) -> Result<Answer, Fault> {
         }
     }
     let formed = totals_of(contents.times.iter().copied().zip(&contents.figures));
-    for (index, total) in formed.iter().enumerate() {
-        if contents.totals[index] != *total {
-            return fault(21 + index as u32, contents.totals_line);
+    for (index, number) in WRONG_TOTAL.into_iter().enumerate() {
+        if contents.totals[index] != formed[index] {
+            return fault(number, contents.totals_line);
         }
     }
     Ok(Answer::Accepted { hours, totals: formed })
@@ -343,7 +345,7 @@ mod tests {
         let hour = |&hour_of_quarter: &u32| Hour { hour_of_quarter, time: 50, readings, figures };
         let (name, hours) = (*b"STACK1", operating.iter().map(hour).collect());
         let idle_hours = idle.into_iter().collect();
-        let mut report = Report { year: 2005, quarter: 3, name, hours, idle_hours, totals: [0; 4] };
+        let mut report = Report { year: 2005, quarter: 3, name, hours, idle_hours, ..Report::default() };
         report.add_up();
         Page::of(&report.bytes(&mut PlainPen))
     }
@@ -361,7 +363,7 @@ mod tests {
 
     #[test]
     fn flow_is_a_number_then_in_range_then_a_whole_thousand() {
-        assert_eq!(answer_to("0020000000"), "accepted 1 2 684 6667 358");
+        assert_eq!(answer_to("0020000000"), "accepted 1 2 684 6667 358 1");
         for flow in ["20,000,500", " 20000.500", "  2000050x", "500000001 "] {
             assert_eq!(answer_to(flow), "refused 8 5", "{flow}");
         }
@@ -395,13 +397,13 @@ mod tests {
     #[test]
     fn idle_hours_add_nothing() {
         for idle in [0..0, 1..2, 1..2_208] {
-            assert_eq!(answer(&report(&[0], idle)), "accepted 1 2 684 6667 358");
+            assert_eq!(answer(&report(&[0], idle)), "accepted 1 2 684 6667 358 1");
         }
         for idle in [0..0, 7..8, 0..2_208] {
-            assert_eq!(answer(&report(&[], idle)), "accepted 0 0 0 0 0");
+            assert_eq!(answer(&report(&[], idle)), "accepted 0 0 0 0 0 0");
         }
-        assert_eq!(answer(&report(&[2_207], 0..2_207)), "accepted 1 2 684 6667 358");
-        assert_eq!(answer(&listed()), "accepted 2 4 1368 13333 358");
+        assert_eq!(answer(&report(&[2_207], 0..2_207)), "accepted 1 2 684 6667 358 1");
+        assert_eq!(answer(&listed()), "accepted 2 4 1368 13333 358 2");
     }
 
     #[test]
@@ -439,7 +441,7 @@ mod tests {
         }
         assert_eq!(answer_with(&[(12, DATE_300, "05070103")]), "refused 6 13");
         assert_eq!(answer_with(&[(12, DATE_300, "05093023")]), "refused 6 13");
-        assert_eq!(answer_with(&[(14, DATE_300, "05093023")]), "accepted 2 4 1368 13333 358");
+        assert_eq!(answer_with(&[(14, DATE_300, "05093023")]), "accepted 2 4 1368 13333 358 2");
     }
 
     #[test]
@@ -502,9 +504,52 @@ mod tests {
             (15, &R301, 1, "      136.9", 22),
             (15, &R301, 2, "     1333.4", 23),
             (15, &R301, 3, " 0.143", 24),
+            (15, &R301, 4, "        0.3", 48),
         ] {
             let answer = answer_with(&[(line, record.values[value].columns, text)]);
             assert_eq!(answer, format!("refused {number} {line}"));
+        }
+    }
+
+    /// The right totals of `listed`, and others in their formats.
+    const RIGHT: [&str; 5] = ["        0.4", "      136.8", "     1333.3", " 0.358", "        0.2"];
+    const OTHER: [&str; 5] = ["        0.0", "999999999.9", "000000000.0", "99.999", "999999999.9"];
+
+    /// The answer to `listed` with these texts on its line 301.
+    fn answer_to_totals(texts: [&str; 5]) -> String {
+        let changes: Vec<(usize, Columns, &str)> =
+            R301.values.iter().zip(texts).map(|(value, text)| (15, value.columns, text)).collect();
+        answer_with(&changes)
+    }
+
+    #[test]
+    fn the_first_total_that_differs_is_named() {
+        assert_eq!(answer_to_totals(RIGHT), "accepted 2 4 1368 13333 358 2");
+        for wrong in 1..32 {
+            let texts = [0, 1, 2, 3, 4].map(|index| [RIGHT, OTHER][wrong >> index & 1][index]);
+            let first = WRONG_TOTAL[wrong.trailing_zeros() as usize];
+            assert_eq!(answer_to_totals(texts), format!("refused {first} 15"), "{texts:?}");
+        }
+    }
+
+    #[test]
+    fn nox_tons_are_the_last_number_of_line_301() {
+        for tons in ["           ", "        0,2", "       0.20", "         .2", "        2  ", "       -0.2"]
+        {
+            for mean in [RIGHT[3], OTHER[3], "      ", "0.358 "] {
+                let texts = [OTHER[0], RIGHT[1], RIGHT[2], mean, tons];
+                assert_eq!(answer_to_totals(texts), "refused 8 15", "{mean} {tons}");
+            }
+        }
+        for (tons, expected) in
+            [("000000000.2", "accepted 2 4 1368 13333 358 2"), ("0000000.358", "refused 8 15")]
+        {
+            assert_eq!(answer_to_totals([RIGHT[0], RIGHT[1], RIGHT[2], RIGHT[3], tons]), expected);
+        }
+        for length in [48, 58, 60] {
+            let mut page = listed();
+            page.lines[14].resize(length, b' ');
+            assert_eq!(answer(&page), "refused 3 15");
         }
     }
 }

@@ -12,6 +12,7 @@ mod quarters;
 pub mod recorder;
 pub mod sheets;
 pub mod tight;
+pub mod tons;
 mod years;
 
 use crate::cases::Case;
@@ -22,13 +23,16 @@ pub use years::Joining;
 /// A family makes what its given turn asks for.
 type Family<T> = fn(&mut Random, usize) -> T;
 
-/// Where the random numbers of files with idle hours start: no other case comes
-/// to so high a part.
+/// Where the random numbers of a recorder's hours, of files with idle hours, and
+/// of files and sheets for NOx tons start: no other case comes to so high a part.
+const FLOAT_HOURS: u64 = 1 << 40;
 const IDLE_HOURS: u64 = 1 << 41;
+const TONS: u64 = 1 << 42;
+const SHEETS_FOR_TONS: u64 = 1 << 43;
 
 /// The cases of a seed: `count` files to check, a third as many sheets to write,
-/// written reports of all sizes with changes to each, and a third as many files
-/// with idle hours.
+/// written reports of all sizes with changes to each, a third as many files with
+/// idle hours, and some files and sheets for NOx tons.
 pub fn cases(seed: u64, count: usize) -> Vec<Case> {
     let mut cases = Vec::new();
     for number in 0..count {
@@ -51,6 +55,14 @@ pub fn cases(seed: u64, count: usize) -> Vec<Case> {
         let random = &mut Random::branch(seed, IDLE_HOURS + number as u64);
         cases.push(Case::File(idle_hours::file(random, number)));
     }
+    for number in 0..count.div_ceil(11) {
+        let random = &mut Random::branch(seed, TONS + number as u64);
+        cases.push(Case::File(tons::file(random, number)));
+    }
+    for number in 0..count.div_ceil(100) {
+        let random = &mut Random::branch(seed, SHEETS_FOR_TONS + number as u64);
+        cases.push(tons::sheet(random, number));
+    }
     cases
 }
 
@@ -62,10 +74,6 @@ pub fn years(seed: u64, count: usize) -> Vec<Joining> {
         .take(count)
         .collect()
 }
-
-/// Where the random numbers of a recorder's hours start: no other case but files
-/// with idle hours comes to so high a part.
-const FLOAT_HOURS: u64 = 1 << 40;
 
 /// Hours of a recorder: the named ones, which all seeds have, and so many of
 /// this seed.

@@ -108,8 +108,12 @@ pub const R201: Record = record(b"201", 34, Some(Columns(16, 8)), &[free(29, 6, 
 pub const R202: Record = record(b"202", 34, Some(Columns(16, 8)), &[ranged(29, 6, 1, 1, 1000)]);
 pub const R220: Record = record(b"220", 48, Some(Columns(16, 8)), &[FLOW]);
 pub const R300: Record = record(b"300", 42, Some(DATE_300), &[TIME, HEAT]);
-pub const R301: Record =
-    record(b"301", 48, None, &[free(10, 11, 1), free(21, 11, 1), free(32, 11, 1), free(43, 6, 3)]);
+pub const R301: Record = record(
+    b"301",
+    59,
+    None,
+    &[free(10, 11, 1), free(21, 11, 1), free(32, 11, 1), free(43, 6, 3), free(49, 11, 1)],
+);
 pub const R310: Record = record(b"310", 34, Some(Columns(10, 8)), &[free(25, 7, 1)]);
 pub const R320: Record =
     record(b"320", 54, Some(Columns(13, 8)), &[ranged(26, 10, 1, 5_000, 30_000), free(36, 6, 3)]);
@@ -120,7 +124,7 @@ pub const HOURLY: [Record; 8] = [R200, R201, R202, R220, R300, R310, R320, R330]
 
 /// The bytes of a report with so many operating hours and no idle ones.
 pub fn report_length(hours: usize) -> usize {
-    64 + 318 * hours
+    75 + 318 * hours
 }
 
 /// Whether a field has nothing but blanks.
@@ -175,7 +179,8 @@ mod tests {
     fn an_hour_takes_318_bytes() {
         let hour: usize = HOURLY.iter().map(|r| r.length + 1).sum();
         assert_eq!(hour, 318);
-        assert_eq!(R100.length + 1 + R301.length + 1, 64);
+        assert_eq!(R100.length + 1 + R301.length + 1, 75);
+        assert_eq!(report_length(2_208), 702_219);
     }
 
     #[test]

@@ -389,8 +389,8 @@ mod tests {
         let recorded = answer_to([MEASURED; READINGS], readings).unwrap();
         let words = [&[word(0, 50)], &recorded[..READINGS], &[word(5, 18_000)]].concat();
         let order = Order { year: 2005, quarter: 3, name: *b"STACK1", words };
-        let mut report = [0; 382];
-        assert_eq!(write(&order, &mut report), Ok(382));
+        let mut report = [0; 393];
+        assert_eq!(write(&order, &mut report), Ok(393));
         check(&report).to_string()
     }
 
@@ -398,7 +398,7 @@ mod tests {
     fn recorded_hours_are_written_and_accepted() {
         let within = [float("249.95") + 1, float("200.05") - 1, float("11.95") + 1, float("20000499.9")];
         for readings in [plain(), within] {
-            assert_eq!(checked(readings), "accepted 1 2 684 6667 358");
+            assert_eq!(checked(readings), "accepted 1 2 684 6667 358 1");
         }
         for ends in [
             ["0", "-0", "0.05", "0"],

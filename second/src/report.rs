@@ -14,8 +14,14 @@ pub struct Hour {
     pub figures: [u128; 4],
 }
 
-/// A whole report. Idle hours are given by their hours of the quarter. Totals
-/// stand in the order SO2, CO2, heat, mean.
+/// The totals of line 301: SO2, CO2 and heat in tenths, the mean NOx rate in
+/// thousandths, and NOx tons in tenths.
+pub type Totals = [u128; TOTALS];
+
+/// How many totals there are.
+pub const TOTALS: usize = 5;
+
+/// A whole report. Idle hours are given by their hours of the quarter.
 #[derive(Clone, Debug, Default, PartialEq, Eq)]
 pub struct Report {
     pub year: u32,
@@ -23,7 +29,7 @@ pub struct Report {
     pub name: [u8; 6],
     pub hours: Vec<Hour>,
     pub idle_hours: Vec<u32>,
-    pub totals: [u128; 4],
+    pub totals: Totals,
 }
 
 /// A value of a line in its recorded unit, or nothing where its columns are
@@ -57,21 +63,31 @@ pub fn place(figure: Figure) -> usize {
 }
 
 /// The totals formed from recorded figures, given as (time, figures) of each
-/// hour: SO2, CO2 and heat in tenths, the mean NOx in thousandths.
-pub fn totals_of<'a>(hours: impl Iterator<Item = (u128, &'a [u128; 4])>) -> [u128; 4] {
-    let (mut so2, mut co2, mut heat, mut nox, mut count) = (0, 0, 0, 0, 0);
+/// operating hour.
+pub fn totals_of<'a>(hours: impl Iterator<Item = (u128, &'a [u128; 4])>) -> Totals {
+    let (mut so2, mut co2, mut heat, mut rates, mut nox, mut count) = (0, 0, 0, 0, 0, 0);
     for (time, figures) in hours {
         heat += figures[0] * time;
         so2 += figures[1] * time;
-        nox += figures[2];
+        rates += figures[2];
+        nox += nox_mass(time, figures);
         co2 += figures[3] * time;
         count += 1;
     }
     // Tenths of lb/hr times hundredths of hours are thousandths of pounds;
     // 2,000 pounds are a ton, and a tenth of a ton is wanted.
-    let mean = if count == 0 { 0 } else { half_up(nox, count) };
-    [half_up(so2, 200_000), half_up(co2, 100), half_up(heat, 100), mean]
+    let mean = if count == 0 { 0 } else { half_up(rates, count) };
+    [half_up(so2, 200_000), half_up(co2, 100), half_up(heat, 100), mean, half_up(nox, NOX_TENTH)]
 }
+
+/// NOx of an operating hour by F-24, rate times heat times time: thousandths of
+/// lb/mmBtu, tenths of mmBtu/hr and hundredths of hours are millionths of pounds.
+pub fn nox_mass(time: u128, figures: &[u128; 4]) -> u128 {
+    figures[2] * figures[0] * time
+}
+
+/// A tenth of a ton in millionths of pounds.
+pub const NOX_TENTH: u128 = 200_000_000;
 
 impl Report {
     /// Sets the totals to those of the figures.
@@ -165,5 +181,37 @@ fn numbers(record: &Record, hour: &Hour) -> Vec<u128> {
         b"310" => vec![f[1]],
         b"320" => vec![r.fc, f[2]],
         _ => vec![f[3]],
+    }
+}
+
+#[cfg(test)]
+mod tests {
+    use super::*;
+
+    /// NOx tons of hours with these times, rates and heats.
+    fn tons(hours: &[(u128, u128, u128)]) -> u128 {
+        let hours: Vec<(u128, [u128; 4])> =
+            hours.iter().map(|&(time, rate, heat)| (time, [heat, 0, rate, 0])).collect();
+        totals_of(hours.iter().map(|(time, figures)| (*time, figures)))[4]
+    }
+
+    #[test]
+    fn tons_are_rounded_once_and_half_up() {
+        assert_eq!(tons(&[]), 0);
+        assert_eq!(tons(&[(50, 358, 13_333)]), 1);
+        // 100 lb, which is half a tenth, and a millionth of a pound less.
+        assert_eq!(tons(&[(100, 100, 10_000)]), 1);
+        assert_eq!(tons(&[(99, 101, 10_001)]), 0);
+        assert_eq!(tons(&[(50, 500, 12_000)]), 2);
+        // Twice 120 lb is 0.12 tons, though 120 lb alone is rounded to 0.1.
+        assert_eq!(tons(&[(100, 120, 10_000), (100, 120, 10_000)]), 1);
+    }
+
+    #[test]
+    fn the_greatest_tons() {
+        let hours = [(100, 99_999, 999_999); 2_208];
+        assert_eq!(tons(&hours), 110_398_786);
+        let sum: u128 = hours.iter().map(|&(time, rate, heat)| time * rate * heat).sum();
+        assert_eq!(sum, 22_079_757_120_220_800);
     }
 }

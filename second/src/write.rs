@@ -129,18 +129,20 @@ mod tests {
     #[test]
     fn the_hour_of_the_paper() {
         let mut buffer = [0xA5; 400];
-        assert_eq!(write(&example(), &mut buffer), Ok(382));
-        assert_eq!(check(&buffer[..382]).to_string(), "accepted 1 2 684 6667 358");
-        assert_eq!(buffer[382..], [0xA5; 18]);
+        assert_eq!(write(&example(), &mut buffer), Ok(393));
+        assert_eq!(check(&buffer[..393]).to_string(), "accepted 1 2 684 6667 358 1");
+        assert_eq!(buffer[393..], [0xA5; 7]);
+        let totals = buffer.split(|&byte| byte == b'\n').find(|line| line.starts_with(b"301"));
+        assert!(totals.is_some_and(|line| line.ends_with(b" 0.358        0.1")));
     }
 
     #[test]
     fn no_hours_at_all() {
         let order = Order { words: Vec::new(), ..example() };
-        let mut buffer = [0; 64];
-        assert_eq!(write(&order, &mut buffer), Ok(64));
-        assert_eq!(check(&buffer).to_string(), "accepted 0 0 0 0 0");
-        assert_eq!(write(&order, &mut buffer[..63]), Err(34));
+        let mut buffer = [0; 75];
+        assert_eq!(write(&order, &mut buffer), Ok(75));
+        assert_eq!(check(&buffer).to_string(), "accepted 0 0 0 0 0 0");
+        assert_eq!(write(&order, &mut buffer[..74]), Err(34));
     }
 
     #[test]
@@ -160,7 +162,7 @@ mod tests {
 
     #[test]
     fn flow_is_taken_in_whole_thousands_up_to_its_limit() {
-        let mut buffer = [0; 382];
+        let mut buffer = [0; 393];
         for (flow, number) in [(0, None), (1, Some(32)), (500, Some(32)), (999, Some(32)), (1_000, None)]
             .into_iter()
             .chain([(20_000_500, Some(32)), (500_000_000, None), (500_000_001, Some(32))])

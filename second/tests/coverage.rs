@@ -7,6 +7,8 @@ mod files;
 mod idle_hours;
 #[path = "support/numbers.rs"]
 mod numbers;
+#[path = "coverage/totals.rs"]
+mod totals;
 
 use files::*;
 use numbers::{every_size, numbers, sizes_in, Name, Size};
@@ -25,7 +27,7 @@ fn every_refusal_occurs_often() {
         let all = cases(seed, COUNT);
         assert!(all.len() >= 2_000);
         let (counts, _) = count(&all);
-        for number in (1..=14).chain(21..=24).chain(31..=34).chain([43, 47]) {
+        for number in (1..=14).chain(21..=24).chain(31..=34).chain([43, 47, 48]) {
             let times: usize = counts.get(&number).map_or(0, |row| row.iter().sum());
             assert!(times >= 15, "seed {seed}: refusal {number} occurs {times} times");
         }
@@ -43,7 +45,7 @@ fn cases_follow_from_the_seed_alone() {
         bytes
     };
     let bytes = encoded(1, COUNT);
-    assert!(bytes.len() <= 2_600_000);
+    assert!(bytes.len() <= 2_700_000);
     assert_eq!(bytes, encoded(1, COUNT));
     assert_ne!(encoded(1, 50), encoded(2, 50));
     assert_eq!(decode(&bytes).as_ref(), Some(&*CASES));
@@ -63,7 +65,7 @@ fn cases_are_well_formed_and_spread_over_the_hours() {
             Case::Write { order, room } => {
                 written = answer[0].strip_prefix("written ").map(|rest| {
                     let length: usize = rest.split(' ').next().unwrap().parse().unwrap();
-                    assert!(length <= *room && length == 64 + 53 * order.words.len());
+                    assert!(length <= *room && length == 75 + 53 * order.words.len());
                     assert!(answer[1].starts_with(&format!("accepted {} ", order.words.len() / 6)));
                     length
                 });
@@ -153,10 +155,12 @@ fn flows_that_are_no_whole_thousand() {
     assert!(remainders.len() >= 20, "{remainders:?}");
     assert!(first >= 40 && later >= 40, "{first} {later}");
     assert!(too_large >= 20 && broken >= 20, "{too_large} {broken}");
-    for (numbers, least) in [(0..=0, 40), (2..=10, 20), (11..=14, 20), (21..=24, 10)] {
+    for (numbers, least) in [(0..=0, 40), (2..=10, 20), (11..=14, 20)] {
         assert!(sum(&faults_behind, numbers) >= least, "{faults_behind:?}");
     }
-    assert!([2, 3, 4, 5, 7].iter().all(|number| faults_before[number] >= 3), "{faults_before:?}");
+    let totals_behind = sum(&faults_behind, 21..=24) + sum(&faults_behind, 48..=48);
+    assert!(totals_behind >= 10, "{faults_behind:?}");
+    assert!([2, 3, 4, 5, 7].iter().all(|number| faults_before[number] >= 2), "{faults_before:?}");
     assert!(sum(&faults_before, 2..=9) >= 30, "{faults_before:?}");
 }
 
@@ -204,7 +208,7 @@ fn heat_that_is_met_exactly() {
     let meets = |readings: &Readings, heat, upper| tight::meets(Figure::Heat, readings, heat, upper);
     let (mut missed, mut beside) = ([0; 2], [0; 2]);
     for (file, number, _) in files().filter(|(_, number, _)| [0, 11].contains(number)) {
-        for (readings, [heat, ..]) in hours_of(file) {
+        for (_, readings, [heat, ..]) in hours_of(file) {
             for upper in [true, false] {
                 let outward = if upper { heat + 1 } else { heat.saturating_sub(1) };
                 if number == 11 && meets(&readings, heat, upper) {
@@ -223,7 +227,7 @@ fn heat_that_is_met_exactly() {
 fn hours_without_flow() {
     let (mut passed, mut past) = ([0; 4], [0; 4]);
     for (file, number, _) in files().filter(|(_, number, _)| [0, 11, 12, 14].contains(number)) {
-        for (readings, figures) in hours_of(file).iter().filter(|(readings, _)| readings.flow == 0) {
+        for (_, readings, figures) in hours_of(file).iter().filter(|(_, readings, _)| readings.flow == 0) {
             for figure in [Figure::Heat, Figure::So2, Figure::Co2] {
                 let index = place(figure);
                 if number == 0 && figures[index] > 0 {
@@ -257,8 +261,8 @@ const MISSING: [(Name, Size); 6] = [
     (Name::Date, Size::Largest),
     (Name::So2Total, Size::Digits(6)),
     (Name::Co2Total, Size::Largest),
-    (Name::Co2Total, Size::Digits(8)),
     (Name::HeatTotal, Size::Digits(9)),
+    (Name::NoxTons, Size::Digits(6)),
     (Name::Co2Rate, Size::Largest),
 ];
 
@@ -274,8 +278,9 @@ fn sizes_of_written_numbers() {
     assert_eq!(times.into_keys().collect::<Vec<_>>(), MISSING);
 }
 
-/// The columns of CO2 and of three totals hold more than there can be: a larger
-/// CO2 figure has too large a heat beside it, and no quarter has more hours.
+/// The columns of CO2 and of the totals in tenths hold more than there can be: a
+/// larger CO2 figure has too large a heat beside it, NOx rate and heat are not both
+/// so large, and no quarter has more hours.
 #[test]
 fn largest_figures_and_totals() {
     for (name, largest) in [
@@ -287,6 +292,7 @@ fn largest_figures_and_totals() {
         (Name::Co2Total, 377_568_000),
         (Name::HeatTotal, 2_207_997_792),
         (Name::NoxMean, 99_999),
+        (Name::NoxTons, 6_591_367),
     ] {
         let number = numbers().into_iter().find(|number| number.name == name);
         assert_eq!(number.and_then(|number| number.ends().pop()), Some(largest), "{name:?}");

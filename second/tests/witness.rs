@@ -1,6 +1,7 @@
 //! The fast test of a figure against the definition: unrounded readings that
 //! lie behind the figure are searched for and, when found, tried with the
-//! formulas as the paper writes them, in fractions of any size.
+//! formulas as the paper writes them, in fractions of any size. Totals are formed
+//! anew in such fractions too.
 //!
 //! The search walks on a straight line from the corner of the spans where the
 //! formula is least to the corner where it is greatest, in 2^64 steps. On the
@@ -20,6 +21,7 @@ use bignat::Big;
 use second::figures::{Figure, Readings, FIGURES};
 use second::generate::tight;
 use second::random::Random;
+use second::report::totals_of;
 
 /// The steps of the walk.
 const STEPS: u128 = 1 << 64;
@@ -32,6 +34,14 @@ struct Fraction {
 }
 
 impl Fraction {
+    fn plus(&self, other: &Fraction) -> Fraction {
+        if self.bottom == other.bottom {
+            return Fraction { top: self.top.plus(&other.top), bottom: self.bottom.clone() };
+        }
+        let (one, two) = (self.top.times(&other.bottom), other.top.times(&self.bottom));
+        Fraction { top: one.plus(&two), bottom: self.bottom.times(&other.bottom) }
+    }
+
     fn times(&self, other: &Fraction) -> Fraction {
         Fraction { top: self.top.times(&other.top), bottom: self.bottom.times(&other.bottom) }
     }
@@ -60,6 +70,7 @@ struct Recorded {
 #[derive(Clone, Copy)]
 struct Unit(u128, u128);
 
+const HUNDREDTH: Unit = Unit(1, 100);
 const TENTH: Unit = Unit(1, 10);
 const THOUSANDTH: Unit = Unit(1, 1_000);
 const THOUSAND: Unit = Unit(1_000, 1);
@@ -74,6 +85,11 @@ impl Recorded {
     /// So many halves of the unit.
     fn halves(self, count: u128) -> Fraction {
         fraction(count * self.unit.0, 2 * self.unit.1)
+    }
+
+    /// The recorded number itself.
+    fn exactly(self) -> Fraction {
+        self.halves(2 * self.count)
     }
 
     /// Whether a value is at least v - u/2.
@@ -298,5 +314,75 @@ fn the_tightest_edges() {
             }
         }
         assert!(passed > 20 && failed > 20, "{figure:?} {passed} {failed}");
+    }
+}
+
+/// Time in hundredths and the four figures of an operating hour.
+type Amounts = (u128, [u128; 4]);
+
+/// The sum over all hours of figures multiplied with one another.
+fn sum(hours: &[Amounts], factors: &[fn(&Amounts) -> Recorded]) -> Fraction {
+    let product = |hour: &Amounts| {
+        factors.iter().fold(fraction(1, 1), |product, factor| product.times(&factor(hour).exactly()))
+    };
+    hours.iter().map(product).fold(fraction(0, 1), |sum, product| sum.plus(&product))
+}
+
+const TIME: fn(&Amounts) -> Recorded = |hour| HUNDREDTH.times(hour.0);
+const HEAT: fn(&Amounts) -> Recorded = |hour| TENTH.times(hour.1[0]);
+const SO2: fn(&Amounts) -> Recorded = |hour| TENTH.times(hour.1[1]);
+const NOX: fn(&Amounts) -> Recorded = |hour| THOUSANDTH.times(hour.1[2]);
+const CO2: fn(&Amounts) -> Recorded = |hour| TENTH.times(hour.1[3]);
+
+/// The totals are the papers' sums and mean, each rounded once. Returns them.
+fn assert_totals(hours: &[Amounts]) -> [u128; 5] {
+    let totals = totals_of(hours.iter().map(|(time, figures)| (*time, figures)));
+    let pounds_to_a_ton = fraction(2_000, 1);
+    let exact = [
+        sum(hours, &[SO2, TIME]).over(&pounds_to_a_ton),
+        sum(hours, &[CO2, TIME]),
+        sum(hours, &[HEAT, TIME]),
+        sum(hours, &[NOX]).over(&fraction(hours.len().max(1) as u128, 1)),
+        sum(hours, &[NOX, HEAT, TIME]).over(&pounds_to_a_ton),
+    ];
+    for (index, unit) in [TENTH, TENTH, TENTH, THOUSANDTH, TENTH].into_iter().enumerate() {
+        let total = totals[index];
+        assert!(unit.times(total).rounded_from(&exact[index]), "{index} {total}");
+        assert!(!unit.times(total + 1).rounded_from(&exact[index]), "{index} {total}");
+    }
+    totals
+}
+
+#[test]
+fn totals_are_rounded_sums() {
+    let largest = (100, [999_999, 999_999, 99_999, 999_999]);
+    assert_eq!(assert_totals(&[]), [0; 5]);
+    assert_eq!(assert_totals(&[(50, [13_333, 8_300, 358, 1_368])]), [2, 684, 6_667, 358, 1]);
+    assert_eq!(assert_totals(&[largest; 2_208])[4], 110_398_786);
+    let mut random = Random::new(10);
+    for count in (0..300).map(|turn| turn % 40) {
+        let hour = |_| {
+            let figures = largest.1.map(|most| random.spread(most));
+            (random.between(1, 100), figures)
+        };
+        assert_totals(&(0..count).map(hour).collect::<Vec<_>>());
+    }
+}
+
+/// NOx of half a tenth of a ton beyond whole tenths is rounded up, and a millionth
+/// of a pound less is rounded down.
+#[test]
+fn tons_on_half_a_tenth() {
+    let tons = |time, rate, heat| assert_totals(&[(time, [heat, 0, rate, 0])])[4];
+    for (time, rate, heat) in [(100, 100, 10_000), (50, 500, 12_000), (1, 10_000, 30_000), (64, 3_125, 9_500)]
+    {
+        let product = time * rate * heat;
+        assert_eq!(product % 200_000_000, 100_000_000);
+        assert_eq!(tons(time, rate, heat), product / 200_000_000 + 1);
+    }
+    for (time, rate, heat) in [(99, 101, 10_001), (99, 73, 13_837), (1, 36_017, 41_647), (29, 193, 125_067)] {
+        let product = time * rate * heat;
+        assert_eq!(product % 200_000_000, 99_999_999);
+        assert_eq!(tons(time, rate, heat), product / 200_000_000);
     }
 }

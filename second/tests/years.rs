@@ -20,9 +20,9 @@ struct Call {
     quarter: u128,
     previous_year: u128,
     previous_quarter: u128,
-    /// Hours, SO2, CO2, heat.
-    previous: [u128; 4],
-    answer: [u128; 4],
+    /// Hours, SO2, CO2, heat, NOx tons.
+    previous: [u128; 5],
+    answer: [u128; 5],
     /// The number of the refusal, if there is one.
     refusal: Option<u64>,
 }
@@ -34,7 +34,7 @@ const CAUSES: [Cause; 6] = [
     ("quarter", |c| c.quarter < 1 || c.quarter > 4),
     ("year", |c| c.previous_year != c.year),
     ("quarter before", |c| c.quarter == 0 || c.previous_quarter != c.quarter - 1),
-    ("zeros", |c| c.previous_quarter == 0 && c.previous != [0; 4]),
+    ("zeros", |c| c.previous_quarter == 0 && c.previous != [0; 5]),
     ("hours", |c| c.answer[0] > MOST_HOURS),
     ("hours before", |c| c.previous[0] > MOST_HOURS * c.previous_quarter),
 ];
@@ -44,16 +44,16 @@ impl Call {
     fn of(joining: &Joining) -> Option<Call> {
         let (outcome, record) = joining.outcome();
         let [previous_year, previous_quarter, previous @ ..] =
-            joining.previous.first_chunk::<6>()?.map(u128::from);
-        let [answer @ .., _] = joining.answer.first_chunk::<5>()?.map(u128::from);
-        record.get(5)?;
+            joining.previous.first_chunk::<7>()?.map(u128::from);
+        let [hours, so2, co2, heat, _, tons] = joining.answer.first_chunk::<6>()?.map(u128::from);
+        record.get(6)?;
         Some(Call {
             year: joining.year.into(),
             quarter: joining.quarter.into(),
             previous_year,
             previous_quarter,
             previous,
-            answer,
+            answer: [hours, so2, co2, heat, tons],
             refusal: (outcome == Outcome::Refused).then(|| record[0]),
         })
     }
@@ -68,7 +68,7 @@ impl Call {
 
     /// The sums that are too large.
     fn over(&self) -> Vec<usize> {
-        (1..4).filter(|&sum| self.sum(sum) > MOST_SUM).collect()
+        (1..5).filter(|&sum| self.sum(sum) > MOST_SUM).collect()
     }
 
     fn joined(&self) -> bool {
@@ -113,8 +113,8 @@ fn every_cause_occurs_alone_and_beside_too_large_a_sum() {
             calls.have(|c| c.causes() == [name] && c.over().is_empty() != over);
         }
     }
-    for amount in 0..4 {
-        let only_one = |c: &Call| (0..4).all(|other| (c.previous[other] != 0) == (other == amount));
+    for amount in 0..5 {
+        let only_one = |c: &Call| (0..5).all(|other| (c.previous[other] != 0) == (other == amount));
         for over in [false, true] {
             calls.have(|c| {
                 c.quarter == 1 && c.previous_quarter == 0 && only_one(c) && c.over().is_empty() != over
@@ -137,7 +137,7 @@ fn quarters_and_years_of_all_sizes() {
     for quarter in [5, 1 << 63, MOST] {
         calls.have(|c| c.causes() == ["quarter"] && c.quarter == quarter);
     }
-    calls.have(|c| c.quarter == 0 && c.previous_quarter == 0 && c.previous == [0; 4]);
+    calls.have(|c| c.quarter == 0 && c.previous_quarter == 0 && c.previous == [0; 5]);
     calls.have(|c| c.quarter == 0 && c.previous_quarter == MOST);
     calls.have(|c| c.quarter == 1 && c.previous_quarter == MOST);
     calls.have(|c| c.previous_quarter < MOST && c.previous_quarter * MOST_HOURS > MOST);
@@ -151,7 +151,7 @@ fn quarters_and_years_of_all_sizes() {
                 c.quarter == 1
                     && c.previous_quarter == 4
                     && c.previous_year + years == c.year
-                    && (c.previous == [0; 4]) == idle
+                    && (c.previous == [0; 5]) == idle
             });
         }
     }
@@ -204,7 +204,7 @@ fn hours_at_their_limits_and_one_beyond() {
 #[test]
 fn sums_at_their_limit_and_beyond() {
     let calls = Calls::new();
-    for sum in 1..4 {
+    for sum in 1..5 {
         for quarter in 1..=4 {
             calls.have(|c| c.joined() && c.quarter == quarter && c.sum(sum) == MOST_SUM);
             calls.have(|c| c.refusal == Some(42) && c.quarter == quarter && c.over() == [sum]);
@@ -224,8 +224,8 @@ fn sums_at_their_limit_and_beyond() {
         }
         calls.have(|c| over(c) && c.sum(sum) == 2 * MOST);
     }
-    calls.have(|c| c.joined() && (1..4).all(|sum| c.sum(sum) == MOST_SUM));
-    calls.have(|c| c.refusal == Some(42) && c.over() == [1, 2, 3]);
+    calls.have(|c| c.joined() && (1..5).all(|sum| c.sum(sum) == MOST_SUM));
+    calls.have(|c| c.refusal == Some(42) && c.over() == [1, 2, 3, 4]);
 }
 
 /// Whether the second call takes the record that the first made or, if that was
@@ -235,7 +235,7 @@ fn follows(first: &Joining, second: &Joining) -> bool {
         (Outcome::Joined, record) => record,
         _ => first.previous.clone(),
     };
-    held.get(..6).is_some_and(|held| second.previous.get(..6) == Some(held))
+    held.get(..7).is_some_and(|held| second.previous.get(..7) == Some(held))
 }
 
 /// Rows of calls, each with the record held by then, from a quarter 0 on.
@@ -247,7 +247,7 @@ fn rows(seed: u64) -> Vec<Vec<Joining>> {
             _ => rows.push(vec![joining]),
         }
     }
-    rows.retain(|row| row.len() > 1 && row[0].previous[1..6] == [0; 5]);
+    rows.retain(|row| row.len() > 1 && row[0].previous[1..7] == [0; 6]);
     rows
 }
 
@@ -283,7 +283,7 @@ fn years_are_joined_quarter_by_quarter() {
 
 #[test]
 fn slices_of_all_lengths() {
-    const WHOLE: [usize; 3] = [6, 5, 6];
+    const WHOLE: [usize; 3] = [7, 6, 7];
     for seed in SEEDS {
         let all = years(seed, COUNT);
         let lengths = |j: &Joining| [j.previous.len(), j.answer.len(), j.record.len()];
@@ -292,7 +292,7 @@ fn slices_of_all_lengths() {
             assert!(all.iter().any(|j| lengths(j) == wanted), "seed {seed}: {wanted:?}");
         }
         for (slice, whole) in WHOLE.into_iter().enumerate() {
-            for length in 0..=8 {
+            for length in 0..=9 {
                 assert!(all.iter().any(|j| lengths(j)[slice] == length), "seed {seed}: {slice} {length}");
             }
             let others_whole =
@@ -304,7 +304,7 @@ fn slices_of_all_lengths() {
             }
         }
         assert!(all.iter().any(|j| lengths(j) == [0; 3]), "seed {seed}");
-        assert!(all.iter().all(|j| j.record.len() < 10));
+        assert!(all.iter().all(|j| j.record.len() < 11));
     }
 }
 
@@ -313,7 +313,7 @@ fn lent_places_keep_their_values_but_for_those_named() {
     for joining in years(1, COUNT) {
         let (outcome, record) = joining.outcome();
         let written = match outcome {
-            Outcome::Joined => 6,
+            Outcome::Joined => 7,
             Outcome::Refused => 1,
             Outcome::TooShort => 0,
         };

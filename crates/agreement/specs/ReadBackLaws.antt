@@ -205,4 +205,5 @@ module _ (year quarter : ℕ) (name : List ℕ) (g : Heading year quarter name) 
             co2 = total-back 1 (omega arith) i;
             heat = total-back 2 (omega arith) i;
             nox = total-back 3 (omega arith) i;
+            «nox_tons» = total-back 4 (omega arith) i;
           }

@@ -129,7 +129,7 @@ pub totals-within : (year quarter : ℕ) (hs : List ReportHour) → AllWritable 
     ValuesWithin (valuesOf QuarterTotals) (totalValues (formed hs))
 totals-within year quarter hs a b =
     let f = totals-fit (recordedHours hs) (recorded-within year quarter hs a) (omega (arith, recorded-length hs)) in
-    (f .so2, (f .co2, (f .heat, (f .nox, tt))))
+    (f .so2, (f .co2, (f .heat, (f .nox, (f .nox-tons, tt)))))
 
 module _ (year quarter : ℕ) (name : List ℕ) (g : Heading year quarter name) (named : length name ≡ stackWidth) (hs : List ReportHour) where
   abbrev records : RecordType → List (List ℕ)

@@ -45,20 +45,22 @@ module _ (previous : YearToDate) (year quarter : ℕ) (answer : Quarter) where
   unfolding joinedOf
   joined-42 e s = rw (e, joinedOf, s)
 
-pub all-fit : (previous : YearToDate) (answer : Quarter) {so2 co2 heat : Bool} → so2 ≡ leb (previous .so2 + answer .so2) yearLimit →
+pub all-fit : (previous : YearToDate) (answer : Quarter) {so2 co2 heat tons : Bool} → so2 ≡ leb (previous .so2 + answer .so2) yearLimit →
     co2 ≡ leb (previous .co2 + answer .co2) yearLimit → heat ≡ leb (previous .heat + answer .heat) yearLimit →
-    so2 && co2 && heat ≡ sumsFit previous answer
+    tons ≡ leb (previous .«nox_tons» + answer .«nox_tons») yearLimit → so2 && co2 && heat && tons ≡ sumsFit previous answer
 unfolding sumsFit
-all-fit previous answer s c h = rw (s, c, h)
+all-fit previous answer s c h n = rw (s, c, h, n)
 
 pub record SumsFit (previous : YearToDate) (answer : Quarter) : Type 0 where
   pub so2 : previous .so2 + answer .so2 ≤ yearLimit
   pub co2 : previous .co2 + answer .co2 ≤ yearLimit
   pub heat : previous .heat + answer .heat ≤ yearLimit
+  pub nox-tons : previous .«nox_tons» + answer .«nox_tons» ≤ yearLimit
 
 pub sums-true : (previous : YearToDate) (answer : Quarter) → sumsFit previous answer ≡ true → SumsFit previous answer
 unfolding sumsFit
 sums-true previous answer e =
-    let b = both _ _ e in
+    let c = both _ _ e in
+    let b = both _ _ (c .0) in
     let a = both _ _ (b .0) in
-    record { so2 = leb-true _ _ (a .0); co2 = leb-true _ _ (a .1); heat = leb-true _ _ (b .1) }
+    record { so2 = leb-true _ _ (a .0); co2 = leb-true _ _ (a .1); heat = leb-true _ _ (b .1); nox-tons = leb-true _ _ (c .1) }

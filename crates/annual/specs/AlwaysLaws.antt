@@ -1,5 +1,5 @@
 -- Accepted quarters of one year, joined from its first on, are never refused: no quarter's total is over 2,208 × 999,999 tenths, and four such
--- come to 8,831,991,168.
+-- come to 8,831,991,168; its NOx tons are not over 110,398,786 tenths.
 use Prim.Native.Nat.{ℕ, suc, _+_, _*_, _≤_, _<_}
 use mathlib.Core.Path.{_≡_, refl, ap, _∙_}
 use mathlib.Core.List.{List, [], _∷_}
@@ -11,7 +11,7 @@ use borrow.Author.Tests.{eq-eqb, ne-eqb, le-leb}
 use Rattle.calendar.specs.Calendar.{mostHours}
 use Rattle.layout.specs.Layout.{quarterDigit}
 use Rattle.layout.specs.LayoutLaws.{true-within}
-use Rattle.totals.specs.FitLaws.{mostTotal, QuarterMost}
+use Rattle.totals.specs.FitLaws.{mostTotal, mostNoxTons, QuarterMost}
 use Rattle.totals.specs.declared.Quarter.{Quarter}
 use Rattle.checker.specs.PromiseLaws.{accepted-most}
 use Rattle.annual.specs.Joined.{numbersOf, allZeros, follows, yearLimit, sumsFit, withQuarter, joinedOf}
@@ -30,6 +30,7 @@ record After (year k : ℕ) (y : YearToDate) : Type 0 where
   so2 : y .so2 ≤ mostTotal * k
   co2 : y .co2 ≤ mostTotal * k
   heat : y .heat ≤ mostTotal * k
+  nox-tons : y .«nox_tons» ≤ mostNoxTons * k
 
 module _ (year k : ℕ) (y : YearToDate) (a : After year k y) (few : k < 4) (answer : Quarter) (m : QuarterMost answer) where
   next-follows : follows y year (suc k) answer ≡ true
@@ -45,6 +46,7 @@ module _ (year k : ℕ) (y : YearToDate) (a : After year k y) (few : k < 4) (ans
         le-leb (y .so2 + answer .so2) yearLimit (omega (arith, a .so2, m .so2)),
         le-leb (y .co2 + answer .co2) yearLimit (omega (arith, a .co2, m .co2)),
         le-leb (y .heat + answer .heat) yearLimit (omega (arith, a .heat, m .heat)),
+        le-leb (y .«nox_tons» + answer .«nox_tons») yearLimit (omega (arith, a .nox-tons, m .nox-tons)),
       )
 
   next-after : After year (suc k) (withQuarter y year (suc k) answer)
@@ -56,6 +58,7 @@ module _ (year k : ℕ) (y : YearToDate) (a : After year k y) (few : k < 4) (ans
     so2 = omega (arith, a .so2, m .so2);
     co2 = omega (arith, a .co2, m .co2);
     heat = omega (arith, a .heat, m .heat);
+    nox-tons = omega (arith, a .nox-tons, m .nox-tons);
   }
 
 joins : (parts : List Part) (year k : ℕ) (y : YearToDate) → After year k y → Consecutive year (suc k) parts → k + length parts ≤ 4 →
@@ -72,7 +75,16 @@ joins (p ∷ ps) year k y a c few =
 
 none-after : (year : ℕ) → After year 0 (noneOf year)
 unfolding allZeros
-none-after year = record { same-year = refl; last = refl; zeros = refl; hours = omega arith; so2 = omega arith; co2 = omega arith; heat = omega arith }
+none-after year = record {
+  same-year = refl;
+  last = refl;
+  zeros = refl;
+  hours = omega arith;
+  so2 = omega arith;
+  co2 = omega arith;
+  heat = omega arith;
+  nox-tons = omega arith;
+}
 
 pub always-joins : (year : ℕ) (parts : List Part) → Consecutive year 1 parts → length parts ≤ 4 →
     (y : YearToDate) × (numbersOf (joinedFrom (noneOf year) parts) ≡ numbersOf (Record y))

@@ -10,14 +10,14 @@ use Rattle.annual.specs.declared.YearToDate.{YearToDate}
 use Rattle.annual.specs.declared.Joined.{Joined}
 use Rattle.annual.specs.declared.Joined.the-variants.{Record, Refused}
 
--- what a joining says: the six numbers of the record, or that of the refusal
+-- what a joining says: the seven numbers of the record, or that of the refusal
 abbrev pub numbersOf : Joined → List ℕ
-numbersOf (Record y) = y .year ∷ y .quarter ∷ y .hours ∷ y .so2 ∷ y .co2 ∷ y .heat ∷ []
+numbersOf (Record y) = y .year ∷ y .quarter ∷ y .hours ∷ y .so2 ∷ y .co2 ∷ y .heat ∷ y .«nox_tons» ∷ []
 numbersOf (Refused number) = number ∷ []
 
 -- a record with neither hours nor amounts
 unfoldable pub allZeros : YearToDate → Bool
-allZeros y = eqb (y .hours) 0 && eqb (y .so2) 0 && eqb (y .co2) 0 && eqb (y .heat) 0
+allZeros y = eqb (y .hours) 0 && eqb (y .so2) 0 && eqb (y .co2) 0 && eqb (y .heat) 0 && eqb (y .«nox_tons») 0
 
 -- 41: the quarter is one of the four, and the record is that of the quarter just before it in the same year; a quarter 0 is all zeros;
 -- neither side has more than 2,208 hours a quarter
@@ -34,6 +34,7 @@ yearLimit = 9_999_999_999
 unfoldable pub sumsFit : YearToDate → Quarter → Bool
 sumsFit previous answer =
     leb (previous .so2 + answer .so2) yearLimit && leb (previous .co2 + answer .co2) yearLimit && leb (previous .heat + answer .heat) yearLimit
+    && leb (previous .«nox_tons» + answer .«nox_tons») yearLimit
 
 -- the record with the quarter added; the mean is not carried
 abbrev pub withQuarter : YearToDate → ℕ → ℕ → Quarter → YearToDate
@@ -44,6 +45,7 @@ withQuarter previous year quarter answer = record {
   so2 = previous .so2 + answer .so2;
   co2 = previous .co2 + answer .co2;
   heat = previous .heat + answer .heat;
+  «nox_tons» = previous .«nox_tons» + answer .«nox_tons»;
 }
 
 unfoldable pub joinedOf : YearToDate → ℕ → ℕ → Quarter → Joined

@@ -31,7 +31,7 @@ same-record x y e = ap (recordIn y) e
 pub says-record : (j : Joined) (y : YearToDate) → numbersOf j ≡ numbersOf (Record y) → j ≡ Record y
 says-record (Record x) y e =
     let at : (k : ℕ) → getD (numbersOf (Record x)) k 0 ≡ getD (numbersOf (Record y)) k 0 = λ k. ap (λ (l : List ℕ). getD l k 0) e in
-    λ i. Record (record { year = at 0 i; quarter = at 1 i; hours = at 2 i; so2 = at 3 i; co2 = at 4 i; heat = at 5 i })
+    λ i. Record (record { year = at 0 i; quarter = at 1 i; hours = at 2 i; so2 = at 3 i; co2 = at 4 i; heat = at 5 i; «nox_tons» = at 6 i })
 says-record (Refused number) y e = absurd (let l = ap length e in omega arith)
 
 -- but for the zeros of a quarter 0, which nothing above needs

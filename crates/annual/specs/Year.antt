@@ -1,18 +1,20 @@
 -- What a year to date promises, over every list of accepted quarters that are joined one after the other, the first to a quarter 0: it is
--- their sum, behind it stand unrounded readings, and whichever they are, the exact year lies within the stated bounds. YearLaws.antt
--- proves it. The year and quarter handed over with an answer need not be the file's.
+-- their sum, behind it stand unrounded readings, and whichever they are, the exact year lies within the stated bounds; its NOx tons lie
+-- within 1/20 ton a quarter of what the recorded figures come to. YearLaws.antt proves it. The year and quarter handed over with an answer
+-- need not be the file's.
 use Prim.Native.Nat.{ℕ, suc}
 use mathlib.Core.Path.{_≡_}
 use mathlib.Core.List.{List, [], _∷_}
 use lib.Dec.{lit<}
 use lib.ListN.{length}
-use Rattle.exact.specs.Fraction.{Fraction, _⊕_, fraction, whole, Near}
+use Rattle.exact.specs.Fraction.{Fraction, _⊕_, fraction, whole, sumOf, Near}
 use Rattle.exact.specs.Rounding.{recorded}
 use Rattle.exact.specs.Sums.{totalOf}
 use Rattle.formulas.specs.Hour.{tenth}
 use Rattle.formulas.specs.Formulas.{Pair}
 use Rattle.formulas.specs.declared.hour.Quantity.{Quantity}
 use Rattle.formulas.specs.declared.hour.Quantity.the-variants.{Heat, So2, Co2}
+use Rattle.totals.specs.Mass.{massTons}
 use Rattle.totals.specs.declared.Quarter.{Quarter}
 use Rattle.reading.specs.Recorded.{hoursOf}
 use Rattle.checker.specs.Checked.{acceptance, checked, numbersOf as answerNumbers}
@@ -32,7 +34,7 @@ pub record Part : Type 0 where
 
 -- a year's quarter 0
 abbrev pub noneOf : ℕ → YearToDate
-noneOf year = record { year = year; quarter = 0; hours = 0; so2 = 0; co2 = 0; heat = 0 }
+noneOf year = record { year = year; quarter = 0; hours = 0; so2 = 0; co2 = 0; heat = 0; «nox_tons» = 0 }
 
 -- what comes next of a record; a refusal stays
 abbrev pub andThen : Joined → (YearToDate → Joined) → Joined
@@ -89,7 +91,10 @@ pub record YearPromise (year : ℕ) (parts : List Part) (y : YearToDate) : Type 
   pub so2 : y .so2 ≡ totalOf (λ p. p .answer .so2) parts
   pub co2 : y .co2 ≡ totalOf (λ p. p .answer .co2) parts
   pub heat : y .heat ≡ totalOf (λ p. p .answer .heat) parts
+  pub nox-tons : y .«nox_tons» ≡ totalOf (λ p. p .answer .«nox_tons») parts
   -- behind each quantity stand unrounded readings; whichever they are, the exact year lies near the reported one
   pub behind : (q : Quantity) → (ess : List (List Pair)) × BehindAll q parts ess
   pub bounds : (q : Quantity) (s : Summed q) (ess : List (List Pair)) → BehindAll q parts ess →
       Near (exactYear q parts ess) (reportedYear s y) (allowedYear s (length parts) (y .hours))
+  -- and NOx by mass, of recorded figures, within 1/20 ton a quarter
+  pub mass : Near (sumOf (λ p. massTons (hoursOf (p .file))) parts) (recorded tenth (y .«nox_tons»)) (fraction (length parts) 20 (lit< tt))

@@ -2,17 +2,19 @@
 use Prim.Native.Nat.{ℕ, suc, _+_, _<_}
 use mathlib.Core.Path.{_≡_, refl, sym, ap, subst, subst₂, _∙_}
 use mathlib.Core.List.{List, [], _∷_}
-use native.Mathlib.Nat.{mul-le-mul-left}
+use native.Mathlib.Nat.{mul-one, mul-le-mul-left}
 use native.Mathlib.Omega.{arith}
 use lib.Dec.{lit<}
 use lib.ListN.{length}
-use Rattle.exact.specs.Fraction.{Fraction, _⊕_, fraction, Near}
+use Rattle.exact.specs.Fraction.{Fraction, _⊕_, fraction, sumOf, Near}
 use Rattle.exact.specs.Rounding.{recorded}
 use Rattle.exact.specs.Sums.{totalOf}
+use Rattle.exact.specs.SumLaws.{sum-near}
 use Rattle.formulas.specs.Hour.{tenth}
 use Rattle.formulas.specs.Formulas.{Pair}
 use Rattle.formulas.specs.declared.hour.Quantity.{Quantity}
 use Rattle.formulas.specs.declared.hour.Quantity.the-variants.{Heat, So2, Co2}
+use Rattle.totals.specs.Mass.{massTons}
 use Rattle.totals.specs.declared.Quarter.{Quarter}
 use Rattle.reading.specs.Recorded.{hoursOf}
 use Rattle.checker.specs.Promise.{LieBehind, exactAmount, reported, allowed}
@@ -63,6 +65,14 @@ module _ (q : Quantity) (amount : Quarter → ℕ) (per : ℕ) (pos : 0 < per)
   parts-near (p ∷ ps) (es ∷ ess) b =
       one-more per pos _ (exactYear q ps ess) (amount (p .answer)) _ _ (p .answer .hours) _ (each p es (b .0)) (parts-near ps ess (b .1))
 
+-- NOx by mass: within 1/20 each
+parts-mass : (ps : List Part) →
+    Near (sumOf (λ p. massTons (hoursOf (p .file))) ps) (recorded tenth (totalOf (λ p. p .answer .«nox_tons») ps)) (fraction (length ps) 20 (lit< tt))
+parts-mass ps =
+    rw (mul-one (length ps))
+    at (sum-near (λ p. massTons (hoursOf (p .file))) (λ p. p .answer .«nox_tons») 1 10 1 20 (lit< tt) (lit< tt)
+    (λ p. promise (p .file) .mass (p .answer) (p .accepted)) ps)
+
 -- a record that comes of two steps comes of the first
 then-record : (j : Joined) (next : YearToDate → Joined) (y : YearToDate) → andThen j next ≡ Record y →
     (x : YearToDate) × ((j ≡ Record x) × (next x ≡ Record y))
@@ -78,6 +88,7 @@ record Grown (before : YearToDate) (parts : List Part) (y : YearToDate) : Type 0
   so2 : y .so2 ≡ before .so2 + totalOf (λ p. p .answer .so2) parts
   co2 : y .co2 ≡ before .co2 + totalOf (λ p. p .answer .co2) parts
   heat : y .heat ≡ before .heat + totalOf (λ p. p .answer .heat) parts
+  nox-tons : y .«nox_tons» ≡ before .«nox_tons» + totalOf (λ p. p .answer .«nox_tons») parts
 
 grown : (ps : List Part) (before y : YearToDate) → joinedFrom before ps ≡ Record y → Grown before ps y
 unfolding joinedFrom hoursIn totalOf
@@ -91,6 +102,7 @@ grown [] before y e =
       so2 = at (λ x. x .so2);
       co2 = at (λ x. x .co2);
       heat = at (λ x. x .heat);
+      nox-tons = at (λ x. x .«nox_tons»);
     }
 grown (p ∷ ps) before y e =
     let t = then-record (joinedOf before (p .year) (p .quarter) (p .answer)) (λ x. joinedFrom x ps) y e in
@@ -107,6 +119,7 @@ grown (p ∷ ps) before y e =
       so2 = omega (arith, g .so2);
       co2 = omega (arith, g .co2);
       heat = omega (arith, g .heat);
+      nox-tons = omega (arith, g .nox-tons);
     }
 
 -- a record whose hours and sums are those of the parts
@@ -127,6 +140,7 @@ year-promise year parts y e =
     let a : y .so2 ≡ totalOf (λ p. p .answer .so2) parts = omega (arith, g .so2) in
     let b : y .co2 ≡ totalOf (λ p. p .answer .co2) parts = omega (arith, g .co2) in
     let c : y .heat ≡ totalOf (λ p. p .answer .heat) parts = omega (arith, g .heat) in
+    let d : y .«nox_tons» ≡ totalOf (λ p. p .answer .«nox_tons») parts = omega (arith, g .nox-tons) in
     record {
       same-year = g .same-year;
       last = omega (arith, g .last);
@@ -135,6 +149,8 @@ year-promise year parts y e =
       so2 = a;
       co2 = b;
       heat = c;
+      nox-tons = d;
       behind = λ q. parts-behind q parts;
       bounds = year-near parts y h a b c;
+      mass = rw d (parts-mass parts);
     }

@@ -6,8 +6,8 @@ ghost use Prim.Native.Nat.{_+_};
 ghost use lib.Dec.{leb};
 ghost use Rattle.annual.specs.Joined.{yearLimit, allZeros, follows, joinedOf};
 
-// A year after some of its quarters: the last of them (0 before the first), their operating hours, and SO2 tons, CO2 tons and heat input
-// in tenths.
+// A year after some of its quarters: the last of them (0 before the first), their operating hours, and SO2 tons, CO2 tons, heat input and
+// NOx tons in tenths.
 pub struct YearToDate {
     pub year: u64,
     pub quarter: u64,
@@ -15,6 +15,7 @@ pub struct YearToDate {
     pub so2: u64,
     pub co2: u64,
     pub heat: u64,
+    pub nox_tons: u64,
 }
 
 // The record with a quarter added, or the number of a refusal.
@@ -30,7 +31,7 @@ const YEAR_LIMIT: u64 = 9999999999;
 fn all_zeros(y: YearToDate) -> bool
     ensures { λ r. ⌜ r ≡ allZeros y ⌝ }
 {
-    (y.hours == 0) & (y.so2 == 0) & (y.co2 == 0) & (y.heat == 0)
+    (y.hours == 0) & (y.so2 == 0) & (y.co2 == 0) & (y.heat == 0) & (y.nox_tons == 0)
 }
 
 // 41: whether a quarter's answer follows a record.
@@ -69,7 +70,8 @@ pub fn join(previous: YearToDate, year: u64, quarter: u64, answer: Quarter) -> J
     let so2 = sum_fits(previous.so2, answer.so2);
     let co2 = sum_fits(previous.co2, answer.co2);
     let heat = sum_fits(previous.heat, answer.heat);
-    if !(so2 & co2 & heat) {
+    let nox_tons = sum_fits(previous.nox_tons, answer.nox_tons);
+    if !(so2 & co2 & heat & nox_tons) {
         return Joined::Refused(42);
     }
     Joined::Record(YearToDate {
@@ -79,5 +81,6 @@ pub fn join(previous: YearToDate, year: u64, quarter: u64, answer: Quarter) -> J
         so2: previous.so2 + answer.so2,
         co2: previous.co2 + answer.co2,
         heat: previous.heat + answer.heat,
+        nox_tons: previous.nox_tons + answer.nox_tons,
     })
 }

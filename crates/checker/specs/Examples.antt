@@ -1,7 +1,7 @@
 -- The paper's worked hour and empty quarter as files, and what the check answers to them: facts about the definitions.
 use mathlib.Core.Path.{_≡_, refl}
 use mathlib.Core.Bool.{Bool, true, _&&_}
-use lib.ListN.{take, drop}
+use lib.ListN.{replicate, take, drop}
 use mathlib.Core.List.{List, [], _∷_, _++_}
 use Prim.Native.Nat.{ℕ, _+_, _*_, _-_}
 use Rattle.exact.specs.Logic.{ranked}
@@ -13,7 +13,7 @@ use Rattle.columns.specs.Columns.{columns, put}
 use Rattle.columns.specs.Number.{digitsFrom, wholeOf, decimalsBehind, fixedOf, fieldOf, numberOf}
 use Rattle.columns.specs.Written.{digitsOf}
 use Rattle.calendar.specs.Calendar.{leapYear, daysInMonth, inQuarter, daysBefore, hourOfQuarter, quarterHour}
-use Rattle.layout.specs.Layout.{lengthOf, dateColumn, hourly, order, shape, offsetOf, within}
+use Rattle.layout.specs.Layout.{noxTons, lengthOf, dateColumn, hourly, order, shape, offsetOf, within}
 use Rattle.layout.specs.declared.RecordType.{RecordType}
 use Rattle.layout.specs.declared.RecordType.the-variants.{So2Concentration, NoxConcentration, Co2Concentration, VolumetricFlow, Operation}
 use Rattle.layout.specs.declared.RecordType.the-variants.{QuarterTotals, So2Mass, NoxRate, Co2Mass}
@@ -49,9 +49,10 @@ workedHour =
     -- 300STACK1050701000.50               1333.3
     (51 ∷ 48 ∷ 48 ∷ 83 ∷ 84 ∷ 65 ∷ 67 ∷ 75 ∷ 49 ∷ 48 ∷ 53 ∷ 48 ∷ 55 ∷ 48 ∷ 49 ∷ 48 ∷ 48 ∷ 48 ∷ 46 ∷ 53 ∷ 48 ∷ 32 ∷ 32 ∷ 32 ∷ 32 ∷ 32 ∷ 32 ∷ 32 ∷ 32 ∷
     32 ∷ 32 ∷ 32 ∷ 32 ∷ 32 ∷ 32 ∷ 32 ∷ 49 ∷ 51 ∷ 51 ∷ 51 ∷ 46 ∷ 51 ∷ 10 ∷ []) ++
-    -- 301STACK1        0.2       68.4      666.7 0.358
+    -- 301STACK1        0.2       68.4      666.7 0.358        0.1
     (51 ∷ 48 ∷ 49 ∷ 83 ∷ 84 ∷ 65 ∷ 67 ∷ 75 ∷ 49 ∷ 32 ∷ 32 ∷ 32 ∷ 32 ∷ 32 ∷ 32 ∷ 32 ∷ 32 ∷ 48 ∷ 46 ∷ 50 ∷ 32 ∷ 32 ∷ 32 ∷ 32 ∷ 32 ∷ 32 ∷ 32 ∷ 54 ∷ 56 ∷
-    46 ∷ 52 ∷ 32 ∷ 32 ∷ 32 ∷ 32 ∷ 32 ∷ 32 ∷ 54 ∷ 54 ∷ 54 ∷ 46 ∷ 55 ∷ 32 ∷ 48 ∷ 46 ∷ 51 ∷ 53 ∷ 56 ∷ 10 ∷ []) ++
+    46 ∷ 52 ∷ 32 ∷ 32 ∷ 32 ∷ 32 ∷ 32 ∷ 32 ∷ 54 ∷ 54 ∷ 54 ∷ 46 ∷ 55 ∷ 32 ∷ 48 ∷ 46 ∷ 51 ∷ 53 ∷ 56 ∷ 32 ∷ 32 ∷ 32 ∷ 32 ∷ 32 ∷ 32 ∷ 32 ∷ 32 ∷ 48 ∷ 46 ∷
+    49 ∷ 10 ∷ []) ++
     -- 310STACK105070100         830.0
     (51 ∷ 49 ∷ 48 ∷ 83 ∷ 84 ∷ 65 ∷ 67 ∷ 75 ∷ 49 ∷ 48 ∷ 53 ∷ 48 ∷ 55 ∷ 48 ∷ 49 ∷ 48 ∷ 48 ∷ 32 ∷ 32 ∷ 32 ∷ 32 ∷ 32 ∷ 32 ∷ 32 ∷ 32 ∷ 32 ∷ 56 ∷ 51 ∷ 48 ∷
     46 ∷ 48 ∷ 32 ∷ 32 ∷ 32 ∷ 10 ∷ []) ++
@@ -66,9 +67,10 @@ unfoldable pub emptyQuarter : List ℕ
 emptyQuarter =
     -- 100STACK120053
     (49 ∷ 48 ∷ 48 ∷ 83 ∷ 84 ∷ 65 ∷ 67 ∷ 75 ∷ 49 ∷ 50 ∷ 48 ∷ 48 ∷ 53 ∷ 51 ∷ 10 ∷ []) ++
-    -- 301STACK1        0.0        0.0        0.0 0.000
+    -- 301STACK1        0.0        0.0        0.0 0.000        0.0
     (51 ∷ 48 ∷ 49 ∷ 83 ∷ 84 ∷ 65 ∷ 67 ∷ 75 ∷ 49 ∷ 32 ∷ 32 ∷ 32 ∷ 32 ∷ 32 ∷ 32 ∷ 32 ∷ 32 ∷ 48 ∷ 46 ∷ 48 ∷ 32 ∷ 32 ∷ 32 ∷ 32 ∷ 32 ∷ 32 ∷ 32 ∷ 32 ∷ 48 ∷
-    46 ∷ 48 ∷ 32 ∷ 32 ∷ 32 ∷ 32 ∷ 32 ∷ 32 ∷ 32 ∷ 32 ∷ 48 ∷ 46 ∷ 48 ∷ 32 ∷ 48 ∷ 46 ∷ 48 ∷ 48 ∷ 48 ∷ 10 ∷ [])
+    46 ∷ 48 ∷ 32 ∷ 32 ∷ 32 ∷ 32 ∷ 32 ∷ 32 ∷ 32 ∷ 32 ∷ 48 ∷ 46 ∷ 48 ∷ 32 ∷ 48 ∷ 46 ∷ 48 ∷ 48 ∷ 48 ∷ 32 ∷ 32 ∷ 32 ∷ 32 ∷ 32 ∷ 32 ∷ 32 ∷ 32 ∷ 48 ∷ 46 ∷
+    48 ∷ 10 ∷ [])
 
 -- a file, and the number and the line that the check names
 pub record Damage : Type 0 where
@@ -130,8 +132,17 @@ damages =
     ∷ record { file = changed So2Mass 27 (57 ∷ []); number = 12; line = 8 }
     ∷ record { file = changed NoxRate 39 (57 ∷ []); number = 13; line = 9 }
     ∷ record { file = changed Co2Mass 20 (57 ∷ []); number = 14; line = 10 }
-    -- heat total 696.7
+    -- SO2 tons 0.9; CO2 tons 98.4; heat total 696.7; the mean 0.958 with NOx tons 0.9, and these alone
+    ∷ record { file = changed QuarterTotals 20 (57 ∷ []); number = 21; line = 7 }
+    ∷ record { file = changed QuarterTotals 28 (57 ∷ []); number = 22; line = 7 }
     ∷ record { file = changed QuarterTotals 39 (57 ∷ []); number = 23; line = 7 }
+    ∷ record { file = put (start QuarterTotals + 59) (57 ∷ []) (changed QuarterTotals 46 (57 ∷ [])); number = 24; line = 7 }
+    ∷ record { file = changed QuarterTotals 59 (57 ∷ []); number = 48; line = 7 }
+    -- NOx tons 100,000,000.1: all their columns count
+    ∷ record { file = changed QuarterTotals (noxTons .start) (49 ∷ replicate 8 48); number = 48; line = 7 }
+    -- 301 ends before its NOx tons; they are blank
+    ∷ record { file = take (start QuarterTotals + noxTons .start - 1) workedHour ++ drop (start So2Mass - 1) workedHour; number = 3; line = 7 }
+    ∷ record { file = changed QuarterTotals 57 (32 ∷ 32 ∷ 32 ∷ []); number = 8; line = 7 }
     ∷ []
 
 -- 300 lines of 1 July 2005, by the last digit of the hour: an idle hour, one with heat 0.0, and one that operates with heat 1,333.3 or 1,933.3
@@ -215,14 +226,14 @@ allNamed (d ∷ ds) = same (numbersOf (checked (d .file))) (refusal (d .number) 
 
 -- what the check answers to the worked hour (also with 829.8, 830.1 and 830.2 lb/hr, and with idle hours about it), to the empty quarter (also
 -- with idle hours alone) and to the damaged files
-pub answers : (numbersOf (checked workedHour) ≡ 1 ∷ 2 ∷ 684 ∷ 6667 ∷ 358 ∷ [])
-    × (allAnswered (lowest ∷ between ∷ highest ∷ []) (1 ∷ 2 ∷ 684 ∷ 6667 ∷ 358 ∷ []) ≡ true)
-    × (numbersOf (checked emptyQuarter) ≡ 0 ∷ 0 ∷ 0 ∷ 0 ∷ 0 ∷ [])
+pub answers : (numbersOf (checked workedHour) ≡ 1 ∷ 2 ∷ 684 ∷ 6667 ∷ 358 ∷ 1 ∷ [])
+    × (allAnswered (lowest ∷ between ∷ highest ∷ []) (1 ∷ 2 ∷ 684 ∷ 6667 ∷ 358 ∷ 1 ∷ []) ≡ true)
+    × (numbersOf (checked emptyQuarter) ≡ 0 ∷ 0 ∷ 0 ∷ 0 ∷ 0 ∷ 0 ∷ [])
     × (allNamed damages ≡ true)
     × (allAnswered (withListed (operatingLine 1) ∷ withListed (idleLine 0 ++ operatingLine 1) ∷ withListed
     (idleLine 0 ++ operatingLine 1 ++ idleLine 2 ++ idleLine 9) ∷ [])
-    (1 ∷ 2 ∷ 684 ∷ 6667 ∷ 358 ∷ []) ≡ true)
-    × (numbersOf (checked (emptyListed (idleLine 0 ++ idleLine 1 ++ idleLine 9))) ≡ 0 ∷ 0 ∷ 0 ∷ 0 ∷ 0 ∷ [])
+    (1 ∷ 2 ∷ 684 ∷ 6667 ∷ 358 ∷ 1 ∷ []) ≡ true)
+    × (numbersOf (checked (emptyListed (idleLine 0 ++ idleLine 1 ++ idleLine 9))) ≡ 0 ∷ 0 ∷ 0 ∷ 0 ∷ 0 ∷ 0 ∷ [])
     × (allNamed idleDamages ≡ true)
 unfolding workedHour emptyQuarter allAnswered allNamed put listed withListed emptyListed
     over meets totalOf all same columns digitsFrom wholeOf decimalsBehind fixedOf fieldOf numberOf digitsOf leapYear daysInMonth inQuarter daysBefore

@@ -167,11 +167,11 @@ abbrev pub Agree : Quarter → Quarter → Type 0
 Agree f s = All (λ (t : Stated). t .amount f ≡ t .amount s) statedTotals
 
 pub numbers-high : All (λ (t : Stated). 15 ≤ t .number) statedTotals
-numbers-high = (lit≤ tt, (lit≤ tt, (lit≤ tt, (lit≤ tt, tt))))
+numbers-high = (lit≤ tt, (lit≤ tt, (lit≤ tt, (lit≤ tt, (lit≤ tt, tt)))))
 
 -- nor are they those of the line checks
 pub numbers-apart : All (λ (t : Stated). ofLineChecks (t .number) ≡ false) statedTotals
-numbers-apart = (refl, (refl, (refl, (refl, tt))))
+numbers-apart = (refl, (refl, (refl, (refl, (refl, tt)))))
 
 pub all-agree : (ts : List Stated) {f s : Quarter} → f ≡ s → All (λ (t : Stated). t .amount f ≡ t .amount s) ts
 all-agree [] e = tt

@@ -1,6 +1,7 @@
 -- What the check promises of its answer to a file, in the words of the paper: every honest report is accepted; behind every accepted
--- file stand unrounded readings; whichever they are, the exact amounts lie within the stated bounds of the reported ones; a figure is
--- refused only where nothing unrounded lies behind it, and a total only where it differs from the one formed. PromiseLaws.antt proves it.
+-- file stand unrounded readings; whichever they are, the exact amounts lie within the stated bounds of the reported ones; NOx tons lie
+-- within 1/20 ton of what the recorded figures come to; a figure is refused only where nothing unrounded lies behind it, and a total only
+-- where it differs from the one formed. PromiseLaws.antt proves it.
 use Prim.Native.Nat.{ℕ, _<_}
 use mathlib.Core.Path.{_≡_}
 use mathlib.Core.Bool.{_&&_}
@@ -14,6 +15,7 @@ use Rattle.exact.specs.Rounding.{recorded}
 use Rattle.formulas.specs.Hour.{tenth, thousandth, Unrounded}
 use Rattle.formulas.specs.Formulas.{Pair, pairOf, exactValue, LiesBehind}
 use Rattle.totals.specs.Totals.{poundsPerTon, quarterTotals}
+use Rattle.totals.specs.Mass.{massTons}
 use Rattle.layout.specs.declared.RecordType.the-variants.{Operation, QuarterTotals}
 use Rattle.formulas.specs.declared.hour.Hour.{Hour}
 use Rattle.formulas.specs.declared.hour.Quantity.{Quantity}
@@ -114,6 +116,8 @@ pub record Promise (file : List ℕ) (answer : Answer) : Type 0 where
   pub behind : (r : Quarter) → numbersOf answer ≡ acceptance r → (q : Quantity) → (ps : List Pair) × LieBehind q (hoursOf file) ps
   pub bounds : (r : Quarter) → numbersOf answer ≡ acceptance r → (q : Quantity) (ps : List Pair) → LieBehind q (hoursOf file) ps →
       Near (exactAmount q (hoursOf file) ps) (reported q r) (allowed q (r .hours))
+  -- NOx tons are of recorded figures: no hour has a share in the bound
+  pub mass : (r : Quarter) → numbersOf answer ≡ acceptance r → Near (massTons (hoursOf file)) (recorded tenth (r .«nox_tons»)) (fraction 1 20 (lit< tt))
   pub rightly : (q : Quantity) (line : ℕ) → numbersOf answer ≡ refusal (numberFor q) line → FailsAt file q line
   pub differs : All (λ (t : Stated). (line : ℕ) → numbersOf answer ≡ refusal (t .number) line → DiffersAt file (t .number) line) statedTotals
   pub count : (r : Quarter) → numbersOf answer ≡ acceptance r → r .hours ≡ hourCount file

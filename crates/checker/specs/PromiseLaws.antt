@@ -5,15 +5,19 @@ use mathlib.Core.List.{List, [], _∷_}
 use mathlib.Core.Bool.{false, false≢true}
 use mathlib.Core.Logic.{⊎-elim}
 use native.Mathlib.Omega.{arith}
+use lib.Dec.{lit<}
 use lib.ListN.{length, getD}
 use Rattle.calendar.specs.Calendar.{mostHours}
 use Rattle.exact.specs.Logic.{ranked-length, All, ranked-all}
-use Rattle.exact.specs.Fraction.{Near}
-use Rattle.formulas.specs.Hour.{HourWithin, HoursWithin, Unrounded}
+use Rattle.exact.specs.Fraction.{fraction, Near}
+use Rattle.exact.specs.Rounding.{recorded}
+use Rattle.formulas.specs.Hour.{tenth, HourWithin, HoursWithin, Unrounded}
 use Rattle.formulas.specs.Formulas.{Pair, pairOf}
 use Rattle.formulas.specs.FormulaLaws.{test-exact}
 use Rattle.totals.specs.Totals.{quarterTotals}
 use Rattle.totals.specs.TotalLaws.{quarter-hours}
+use Rattle.totals.specs.Mass.{massTons}
+use Rattle.totals.specs.MassLaws.{mass-near}
 use Rattle.totals.specs.FitLaws.{QuarterMost, totals-most}
 use Rattle.layout.specs.declared.RecordType.the-variants.{QuarterTotals}
 use Rattle.formulas.specs.declared.hour.Hour.{Hour}
@@ -107,7 +111,8 @@ honest-checked file sets h =
     })
 
 same-quarter : (f s : Quarter) → f .hours ≡ s .hours → Agree f s → f ≡ s
-same-quarter f s h a = λ i. record { hours = h i; so2 = a .0 i; co2 = a .1 .0 i; heat = a .1 .1 .0 i; nox = a .1 .1 .1 .0 i }
+same-quarter f s h a =
+    λ i. record { hours = h i; so2 = a .0 i; co2 = a .1 .0 i; heat = a .1 .1 .0 i; nox = a .1 .1 .1 .0 i; «nox_tons» = a .1 .1 .1 .1 .0 i }
 
 refused-rightly : (file : List ℕ) (q : Quantity) (line : ℕ) → checked file ≡ refusedAt (numberFor q) line → FailsAt file q line
 unfolding checked afterReading judged hoursOf
@@ -170,6 +175,11 @@ module _ (file : List ℕ) (r : Quarter) (e : checked file ≡ Accepted r) where
       (hours-count file ∙ sym accepted-count)
       (amount-bound q (hoursOf file) es accepted-within b)
 
+  accepted-mass : Near (massTons (hoursOf file)) (recorded tenth (r .«nox_tons»)) (fraction 1 20 (lit< tt))
+  accepted-mass =
+      subst (λ (x : Quarter). Near (massTons (hoursOf file)) (recorded tenth (x .«nox_tons»)) (fraction 1 20 (lit< tt))) (accepted-facts file r e .formed)
+      (mass-near (hoursOf file))
+
   accepted-totals : r ≡ totalsIn file
   unfolding totalsIn
   accepted-totals = let f = accepted-facts file r e in same-quarter r (totalsIn file) accepted-count (rw (f .formed) at (f .agree))
@@ -178,7 +188,7 @@ module _ (file : List ℕ) (r : Quarter) (e : checked file ≡ Accepted r) where
 pub accepts : (answer : Answer) (r : Quarter) → numbersOf answer ≡ acceptance r → answer ≡ Accepted r
 accepts (Accepted q) r e =
     let at : (k : ℕ) → getD (acceptance q) k 0 ≡ getD (acceptance r) k 0 = λ k. ap (λ (l : List ℕ). getD l k 0) e in
-    ap Accepted (same-quarter q r (at 0) (at 1, (at 2, (at 3, (at 4, tt)))))
+    ap Accepted (same-quarter q r (at 0) (at 1, (at 2, (at 3, (at 4, (at 5, tt))))))
 accepts (Refused x) r e = absurd (let l = ap length e in omega arith)
 
 refuses : (answer : Answer) (number line : ℕ) → numbersOf answer ≡ refusal number line → answer ≡ refusedAt number line
@@ -203,6 +213,7 @@ promise file =
       honest = λ sets h. (quarterTotals (hoursOf file), ap numbersOf (honest-checked file sets h));
       behind = λ r e. accepted-behind file r (yes r e);
       bounds = λ r e. accepted-bounds file r (yes r e);
+      mass = λ r e. accepted-mass file r (yes r e);
       rightly = λ q line e. refused-rightly file q line (refuses (checked file) (numberFor q) line e);
       differs = each statedTotals numbers-high numbers-apart;
       count = λ r e. accepted-count file r (yes r e);

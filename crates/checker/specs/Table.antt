@@ -3,7 +3,7 @@
 use Prim.Native.Nat.{ℕ}
 use mathlib.Core.List.{List, List·Memᴰ}
 use mathlib.Core.Bool.{Bool, _&&_, _||_}
-use lib.Dec.{leb}
+use lib.Dec.{eqb, leb}
 use Rattle.layout.specs.declared.RecordType.the-variants.{QuarterTotals}
 use Rattle.formulas.specs.declared.hour.Quantity.{Quantity}
 use Rattle.totals.specs.declared.Quarter.{Quarter}
@@ -18,9 +18,9 @@ pub data InTable (file : List ℕ) : List ℕ → Type 0 where
   ofLines : (number line : ℕ) → Refuses file number line → InTable file (refusal number line)
   -- 11 to 14: a figure, on a line of its type
   ofFigure : (q : Quantity) (line : ℕ) → HasRecord file (typeFor q) line → InTable file (refusal (numberFor q) line)
-  -- 21 to 24: a total, on line 301
+  -- 21 to 24 and 48: a total, on line 301
   ofTotal : (t : Stated) (line : ℕ) → List·Memᴰ t statedTotals → HasRecord file QuarterTotals line → InTable file (refusal (t .number) line)
 
 -- the ranges in which the table's numbers lie
 abbrev pub ofCheck : ℕ → Bool
-ofCheck number = ofLineChecks number || (leb 11 number && leb number 14) || (leb 21 number && leb number 24)
+ofCheck number = ofLineChecks number || (leb 11 number && leb number 14) || (leb 21 number && leb number 24) || eqb number 48

@@ -119,7 +119,7 @@ table-ranges : {file answer : List ℕ} → InTable file answer → InRanges ans
 table-ranges (accepted r) = tt
 table-ranges (ofLines number line r) = rw (refuses-number r)
 table-ranges (ofFigure q line h) = figure-number q
-table-ranges (ofTotal t line m h) = all-member (λ t. ofCheck (t .number) ≡ true) statedTotals t (refl, (refl, (refl, (refl, tt)))) m
+table-ranges (ofTotal t line m h) = all-member (λ t. ofCheck (t .number) ≡ true) statedTotals t (refl, (refl, (refl, (refl, (refl, tt))))) m
 
 pub table-numbers : (file : List ℕ) (number line : ℕ) → numbersOf (checked file) ≡ refusal number line → ofCheck number ≡ true
 table-numbers file number line e = table-ranges (rw e at (in-table file))

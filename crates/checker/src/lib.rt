@@ -82,7 +82,8 @@ fn totals_fault(formed: Quarter, stated: Quarter) -> u64
     let so2 = first_fault(0, 21, formed.so2, stated.so2);
     let co2 = first_fault(so2, 22, formed.co2, stated.co2);
     let heat = first_fault(co2, 23, formed.heat, stated.heat);
-    first_fault(heat, 24, formed.nox, stated.nox)
+    let nox = first_fault(heat, 24, formed.nox, stated.nox);
+    first_fault(nox, 48, formed.nox_tons, stated.nox_tons)
 }
 
 // The totals formed against those stated on line 301.

@@ -35,7 +35,8 @@ module _ (file buffer : List ℕ) where
   short h = (rw (lt-ltb (length buffer) answerLength h, checkCode), rw (lt-ltb (length buffer) answerLength h, checkFilled))
 
   pub accepted : (r : Quarter) → checked file ≡ Accepted r → answerLength ≤ length buffer →
-      (1 ≡ checkCode file buffer) × (set (set (set (set (set buffer 0 (r .hours)) 1 (r .so2)) 2 (r .co2)) 3 (r .heat)) 4 (r .nox) ≡ checkFilled file buffer)
+      (1 ≡ checkCode file buffer)
+      × (set (set (set (set (set (set buffer 0 (r .hours)) 1 (r .so2)) 2 (r .co2)) 3 (r .heat)) 4 (r .nox)) 5 (r .«nox_tons») ≡ checkFilled file buffer)
   unfolding checkCode checkFilled store
   accepted r e h =
       let few = le-ltb (length buffer) answerLength h in

@@ -33,7 +33,7 @@ module _ (previous answer : List ℕ) (year quarter : ℕ) (buffer : List ℕ) w
   module _ (long : tooShort previous answer buffer ≡ false) where
     pub joined : (y : YearToDate) → joinedOf (yearIn previous) year quarter (quarterIn answer) ≡ Record y →
         (1 ≡ yearCode previous answer year quarter buffer)
-        × (set (set (set (set (set (set buffer 0 (y .year)) 1 (y .quarter)) 2 (y .hours)) 3 (y .so2)) 4 (y .co2)) 5 (y .heat)
+        × (set (set (set (set (set (set (set buffer 0 (y .year)) 1 (y .quarter)) 2 (y .hours)) 3 (y .so2)) 4 (y .co2)) 5 (y .heat)) 6 (y .«nox_tons»)
         ≡ yearFilled previous answer year quarter buffer)
     unfolding yearCode yearFilled store
     joined y e =

@@ -25,7 +25,7 @@ filled numbers buffer = numbers ++ drop (length numbers) buffer
 
 -- how many numbers an acceptance has
 abbrev pub answerLength : ℕ
-answerLength = 5
+answerLength = 6
 
 unfoldable pub checkCode : List ℕ → List ℕ → ℕ
 checkCode file buffer = elim (ltb (length buffer) answerLength) [ true ↦ 2 | false ↦ answerCode (checked file) ]
@@ -44,14 +44,22 @@ writeFilled year quarter name sheet buffer = elim (eqb (length name) stackWidth)
 
 -- how many numbers a year's record has
 abbrev pub yearLength : ℕ
-yearLength = 6
+yearLength = 7
 
 -- an accepted answer, and a year's record, from their numbers
 abbrev pub quarterIn : List ℕ → Quarter
-quarterIn l = record { hours = getD l 0 0; so2 = getD l 1 0; co2 = getD l 2 0; heat = getD l 3 0; nox = getD l 4 0 }
+quarterIn l = record { hours = getD l 0 0; so2 = getD l 1 0; co2 = getD l 2 0; heat = getD l 3 0; nox = getD l 4 0; «nox_tons» = getD l 5 0 }
 
 abbrev pub yearIn : List ℕ → YearToDate
-yearIn l = record { year = getD l 0 0; quarter = getD l 1 0; hours = getD l 2 0; so2 = getD l 3 0; co2 = getD l 4 0; heat = getD l 5 0 }
+yearIn l = record {
+  year = getD l 0 0;
+  quarter = getD l 1 0;
+  hours = getD l 2 0;
+  so2 = getD l 3 0;
+  co2 = getD l 4 0;
+  heat = getD l 5 0;
+  «nox_tons» = getD l 6 0;
+}
 
 abbrev pub joinedCode : Joined → ℕ
 joinedCode (Record y) = 1

@@ -16,10 +16,10 @@ ghost use Rattle.edr_c.specs.Boundary.{quarterIn, yearIn, yearCode, year
 ghost use Rattle.edr_c.specs.RecorderCall.{readingIn, recorderCode, recorderFilled};
 
 // The numbers of an answer.
-const ANSWER_LENGTH: usize = 5;
+const ANSWER_LENGTH: usize = 6;
 
 // The numbers of a year's record.
-const YEAR_LENGTH: usize = 6;
+const YEAR_LENGTH: usize = 7;
 
 // The readings of an hour, and the numbers of its answer.
 const READINGS: usize = 4;
@@ -33,8 +33,8 @@ const SUBSTITUTED: u8 = 1;
 
 const ABSENT: u8 = 2;
 
-// 1 and n, SO2, CO2, heat and mean in answer[0..5] where the report is accepted; 0 and number and line in answer[0..2] where it is
-// refused; 2 where the answer has fewer than five elements. Elements beyond keep their values.
+// 1 and n, SO2, CO2, heat, mean and NOx tons in answer[0..6] where the report is accepted; 0 and number and line in answer[0..2] where it
+// is refused; 2, with nothing written, where the answer has fewer than six elements. Elements beyond keep their values.
 #[no_mangle]
 pub extern "C" fn edr_check(file: &[u8], answer: &mut [u64]) -> u64
     ensures { λ r. ⌜ (r ≡ checkCode (now (file .entry)) (now (answer .entry)))
@@ -50,6 +50,7 @@ pub extern "C" fn edr_check(file: &[u8], answer: &mut [u64]) -> u64
             answer[2] = quarter.co2;
             answer[3] = quarter.heat;
             answer[4] = quarter.nox;
+            answer[5] = quarter.nox_tons;
             1
         }
         Answer::Refused(refusal) => {
@@ -60,7 +61,7 @@ pub extern "C" fn edr_check(file: &[u8], answer: &mut [u64]) -> u64
     }
 }
 
-// The length of the report written, which is 64 or more, or the number of the refusal. A name of another length than six is 31.
+// The length of the report written, which is 75 or more, or the number of the refusal. A name of another length than six is 31.
 #[no_mangle]
 pub extern "C" fn edr_write(
     year: u64,
@@ -93,6 +94,7 @@ fn quarter_in(numbers: &[u64]) -> Quarter
         co2: numbers[2],
         heat: numbers[3],
         nox: numbers[4],
+        nox_tons: numbers[5],
     }
 }
 
@@ -108,12 +110,13 @@ fn year_in(numbers: &[u64]) -> YearToDate
         so2: numbers[3],
         co2: numbers[4],
         heat: numbers[5],
+        nox_tons: numbers[6],
     }
 }
 
-// 1 and year, quarter, hours, SO2, CO2 and heat in record[0..6] where the quarter is joined to the previous record; 0 and the number in
-// record[0] where it is refused; 2, with nothing written, where previous, answer or record has fewer than its six, five or six elements.
-// Elements beyond keep their values.
+// 1 and year, quarter, hours, SO2, CO2, heat and NOx tons in record[0..7] where the quarter is joined to the previous record; 0 and the
+// number in record[0] where it is refused; 2, with nothing written, where previous, answer or record has fewer than its seven, six or seven
+// elements. Elements beyond keep their values.
 #[no_mangle]
 pub extern "C" fn edr_year_to_date(
     previous: &[u64],
@@ -139,6 +142,7 @@ pub extern "C" fn edr_year_to_date(
             record[3] = joined.so2;
             record[4] = joined.co2;
             record[5] = joined.heat;
+            record[6] = joined.nox_tons;
             1
         }
         Joined::Refused(number) => {

@@ -69,7 +69,7 @@ fn main() {
     let reads = read_report(&mut report);
     match input_of(reads.size, reads.last) {
         Input::Report(size) => {
-            let mut line = [0u8; 128];
+            let mut line = [0u8; printing::LONGEST_LINE];
             let length = answer_line(&report[..size], &mut line);
             io::write_all(STDOUT_FILENO, &line[..length]);
         }

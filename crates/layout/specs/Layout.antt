@@ -101,6 +101,9 @@ heatTotal = anyDecimal 32 11 1
 abbrev pub noxMean : Value
 noxMean = anyDecimal 43 6 3
 
+abbrev pub noxTons : Value
+noxTons = anyDecimal 49 11 1
+
 abbrev pub so2Rate : Value
 so2Rate = anyDecimal 25 7 1
 
@@ -144,7 +147,7 @@ recordOf NoxConcentration = row 201 34 16 Hourly (noxPpm ∷ [])
 recordOf Co2Concentration = row 202 34 16 Hourly (co2Percent ∷ [])
 recordOf VolumetricFlow = row 220 48 16 Hourly (flowScfh ∷ [])
 recordOf Operation = row 300 42 10 Listed (timeHours ∷ heatRate ∷ [])
-recordOf QuarterTotals = row 301 48 0 Once (so2Tons ∷ co2Tons ∷ heatTotal ∷ noxMean ∷ [])
+recordOf QuarterTotals = row 301 59 0 Once (so2Tons ∷ co2Tons ∷ heatTotal ∷ noxMean ∷ noxTons ∷ [])
 recordOf So2Mass = row 310 34 10 Hourly (so2Rate ∷ [])
 recordOf NoxRate = row 320 54 13 Hourly (fFactor ∷ noxRate ∷ [])
 recordOf Co2Mass = row 330 24 10 Hourly (co2Rate ∷ [])
@@ -173,7 +176,7 @@ valueCount t = length (valuesOf t)
 
 -- no record has more
 abbrev pub mostValues : ℕ
-mostValues = 4
+mostValues = 5
 
 -- the i-th value of a record from the left, from 0
 abbrev pub valueAt : RecordType → ℕ → Value

@@ -1,5 +1,5 @@
 -- What is proved of the table and the order: a test over all rows holds of each; a report of n operating hours with m
--- 300 lines has 64 + 275 × n + 43 × m bytes.
+-- 300 lines has 75 + 275 × n + 43 × m bytes.
 use mathlib.Core.Path.{_≡_, refl, sym, ap, _∙_}
 use mathlib.Core.Bool.{Bool, true, _&&_}
 use mathlib.Core.List.{List, [], _∷_}
@@ -113,6 +113,6 @@ flow-within scfh w = rw (scfh-back scfh w) w
 pub thousands-back : (thousands : ℕ) → thousandsOf (scfhOf thousands) ≡ thousands
 thousands-back thousands = omega arith
 
-pub report-length : (s : Shape) → reportLength s ≡ 64 + 275 * s .hours + 43 * s .operations
+pub report-length : (s : Shape) → reportLength s ≡ 75 + 275 * s .hours + 43 * s .operations
 unfolding reportLength totalOf
 report-length s = omega arith

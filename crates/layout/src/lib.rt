@@ -23,7 +23,7 @@ pub const STACK_WIDTH: usize = 6;
 pub const DATE_WIDTH: usize = 8;
 
 // No record has more values.
-pub const MOST_VALUES: usize = 4;
+pub const MOST_VALUES: usize = 5;
 
 // Line 100 and a 200 line: their length, and with byte 10; where the date of a 200 line starts.
 pub const FACILITY_LENGTH: usize = 14;
@@ -158,10 +158,10 @@ pub fn row_of(t: RecordType) -> Row
         RecordType::QuarterTotals => Row {
             code: 301,
             digits: [b'3', b'0', b'1'],
-            length: 48,
+            length: 59,
             date: 0,
             run: Run::Once,
-            values: 4,
+            values: 5,
         },
         RecordType::So2Mass => Row {
             code: 310,
@@ -265,9 +265,9 @@ fn lead_of(t: RecordType) -> Lead
         RecordType::VolumetricFlow => lead_by(1, 15, 3, 111, 0, 0),
         RecordType::Operation => lead_by(1, 15, 4, 160, 0, 0),
         RecordType::QuarterTotals => lead_by(1, 15, 4, 160, 1, 43),
-        RecordType::So2Mass => lead_by(2, 64, 4, 160, 1, 43),
-        RecordType::NoxRate => lead_by(2, 64, 5, 195, 1, 43),
-        RecordType::Co2Mass => lead_by(2, 64, 6, 250, 1, 43),
+        RecordType::So2Mass => lead_by(2, 75, 4, 160, 1, 43),
+        RecordType::NoxRate => lead_by(2, 75, 5, 195, 1, 43),
+        RecordType::Co2Mass => lead_by(2, 75, 6, 250, 1, 43),
     }
 }
 
@@ -323,7 +323,8 @@ fn total_at(i: usize) -> Value
         0 => values::SO2_TONS,
         1 => values::CO2_TONS,
         2 => values::HEAT_TOTAL,
-        _ => values::NOX_MEAN,
+        3 => values::NOX_MEAN,
+        _ => values::NOX_TONS,
     }
 }
 

@@ -169,6 +169,15 @@ pub const NOX_MEAN: Value = Value {
     step: 1,
 };
 
+pub const NOX_TONS: Value = Value {
+    start: 49,
+    width: 11,
+    decimals: 1,
+    least: 0,
+    most: 9999999999,
+    step: 1,
+};
+
 pub const SO2_RATE: Value = Value {
     start: 25,
     width: 7,

@@ -20,7 +20,7 @@ struct Step {
 }
 
 fn print_check(report: &[u8]) {
-    let mut line = [0u8; 128];
+    let mut line = [0u8; printing::LONGEST_LINE];
     let size = printing::print_answer(&mut line, checker::check(report));
     io::write_all(STDOUT_FILENO, &line[..size]);
 }
@@ -29,7 +29,7 @@ fn print_check(report: &[u8]) {
 fn print_sum(word: &[u8], number: u64, bytes: &[u8])
     requires { ⌜ length (now word) ≤ 8 ⌝ }
 {
-    let mut line = [0u8; 128];
+    let mut line = [0u8; printing::LONGEST_LINE];
     let size = printing::print_line(&mut line, word, &[number, adler(bytes)]);
     io::write_all(STDOUT_FILENO, &line[..size]);
 }

@@ -6,15 +6,15 @@ use Rattle.checker.specs.Checked.{refusedAt}
 use Rattle.checker.specs.declared.Answer.the-variants.{Accepted}
 use Rattle.printing.specs.Printed.{digitCountIn, decimalOf, allSpaced, printedLine, printed}
 
--- "accepted 1 2 684 6667 358"
-workedAnswer : printed (Accepted (record { hours = 1; so2 = 2; co2 = 684; heat = 6667; nox = 358 }))
-    ≡ 97 ∷ 99 ∷ 99 ∷ 101 ∷ 112 ∷ 116 ∷ 101 ∷ 100 ∷ 32 ∷ 49 ∷ 32 ∷ 50 ∷ 32 ∷ 54 ∷ 56 ∷ 52 ∷ 32 ∷ 54 ∷ 54 ∷ 54 ∷ 55 ∷ 32 ∷ 51 ∷ 53 ∷ 56 ∷ 10 ∷ []
+-- "accepted 1 2 684 6667 358 1"
+workedAnswer : printed (Accepted (record { hours = 1; so2 = 2; co2 = 684; heat = 6667; nox = 358; «nox_tons» = 1 }))
+    ≡ 97 ∷ 99 ∷ 99 ∷ 101 ∷ 112 ∷ 116 ∷ 101 ∷ 100 ∷ 32 ∷ 49 ∷ 32 ∷ 50 ∷ 32 ∷ 54 ∷ 56 ∷ 52 ∷ 32 ∷ 54 ∷ 54 ∷ 54 ∷ 55 ∷ 32 ∷ 51 ∷ 53 ∷ 56 ∷ 32 ∷ 49 ∷ 10 ∷ []
 unfolding digitsOf digitCountIn allSpaced printedLine
 workedAnswer = refl
 
--- "accepted 0 0 0 0 0"
-emptyAnswer : printed (Accepted (record { hours = 0; so2 = 0; co2 = 0; heat = 0; nox = 0 }))
-    ≡ 97 ∷ 99 ∷ 99 ∷ 101 ∷ 112 ∷ 116 ∷ 101 ∷ 100 ∷ 32 ∷ 48 ∷ 32 ∷ 48 ∷ 32 ∷ 48 ∷ 32 ∷ 48 ∷ 32 ∷ 48 ∷ 10 ∷ []
+-- "accepted 0 0 0 0 0 0"
+emptyAnswer : printed (Accepted (record { hours = 0; so2 = 0; co2 = 0; heat = 0; nox = 0; «nox_tons» = 0 }))
+    ≡ 97 ∷ 99 ∷ 99 ∷ 101 ∷ 112 ∷ 116 ∷ 101 ∷ 100 ∷ 32 ∷ 48 ∷ 32 ∷ 48 ∷ 32 ∷ 48 ∷ 32 ∷ 48 ∷ 32 ∷ 48 ∷ 32 ∷ 48 ∷ 10 ∷ []
 unfolding digitsOf digitCountIn allSpaced printedLine
 emptyAnswer = refl
 

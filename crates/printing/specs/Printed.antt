@@ -38,6 +38,10 @@ outcomeWord (Refused refusal) = 114 ∷ 101 ∷ 102 ∷ 117 ∷ 115 ∷ 101 ∷ 
 abbrev pub printed : Answer → List ℕ
 printed answer = printedLine (outcomeWord answer) (numbersOf answer)
 
--- the length of a word of eight letters, five spaces and numbers of 20 digits, and byte 10
+-- no line has more numbers
+abbrev pub mostNumbers : ℕ
+mostNumbers = 6
+
+-- the length of a word of eight letters, of so many spaces and numbers of 20 digits, and byte 10
 abbrev pub longestLine : ℕ
-longestLine = 8 + 5 * 21 + 1
+longestLine = 8 + mostNumbers * 21 + 1

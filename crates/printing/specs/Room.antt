@@ -2,7 +2,7 @@
 use Prim.Native.Nat.{ℕ, _+_, _≤_}
 use mathlib.Core.List.{List}
 use lib.ListN.{length}
-use Rattle.printing.specs.Printed.{longestLine}
+use Rattle.printing.specs.Printed.{mostNumbers, longestLine}
 
 -- a space and 20 digits from a column on
 pub record NumberRoom (column : ℕ) (line : List ℕ) : Type 0 where
@@ -11,5 +11,5 @@ pub record NumberRoom (column : ℕ) (line : List ℕ) : Type 0 where
 
 pub record LineRoom (word numbers line : List ℕ) : Type 0 where
   pub letters : length word ≤ 8
-  pub few : length numbers ≤ 5
+  pub few : length numbers ≤ mostNumbers
   pub room : longestLine ≤ length line

@@ -7,6 +7,9 @@ ghost use Rattle.columns.specs.Columns.{put};
 ghost use Rattle.printing.specs.Printed.{digitCount, spaced, printedLine, printed, longestLine};
 ghost use Rattle.printing.specs.Room.{NumberRoom, LineRoom};
 
+// The longest line: a word of eight letters, six spaces and numbers of 20 digits, and byte 10.
+pub const LONGEST_LINE: usize = 8 + 6 * 21 + 1;
+
 fn digit_count(value: u64) -> usize
     ensures { λ r. ⌜ (r ≡ digitCount value) × (r ≤ 20) ⌝ }
 {
@@ -30,7 +33,7 @@ fn print_number(line: &mut [u8], column: usize, value: u64) -> usize
     column + 1 + count
 }
 
-// A word and up to five numbers, from the first column on. Returns the length of the line.
+// A word and up to six numbers, from the first column on. Returns the length of the line.
 pub fn print_line(line: &mut [u8], word: &[u8], numbers: &[u64]) -> usize
     requires { ⌜ LineRoom (now word) (now numbers) (now line) ⌝ }
     ensures { λ r. ⌜ (r ≡ length (printedLine (now (word .entry)) (now (numbers .entry)))) × (r ≤ longestLine)
@@ -62,6 +65,7 @@ pub fn print_answer(line: &mut [u8], answer: Answer) -> usize
                 quarter.co2,
                 quarter.heat,
                 quarter.nox,
+                quarter.nox_tons,
             ],
         ),
         Answer::Refused(refusal) => print_line(

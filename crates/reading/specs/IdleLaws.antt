@@ -121,6 +121,7 @@ module _ (file other : List ℕ) (w : WithoutIdle file other) where
     co2 = same-value QuarterTotals 0 1 i;
     heat = same-value QuarterTotals 0 2 i;
     nox = same-value QuarterTotals 0 3 i;
+    «nox_tons» = same-value QuarterTotals 0 4 i;
   }
 
 -- the lines are right as well

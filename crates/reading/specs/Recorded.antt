@@ -85,4 +85,5 @@ totalsIn file = record {
   co2 = valueOn file QuarterTotals 0 1;
   heat = valueOn file QuarterTotals 0 2;
   nox = valueOn file QuarterTotals 0 3;
+  «nox_tons» = valueOn file QuarterTotals 0 4;
 }

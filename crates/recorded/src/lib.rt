@@ -84,5 +84,6 @@ pub fn totals(file: &[u8], s: Shape) -> Quarter
         co2: value_in(file, s, RecordType::QuarterTotals, 0, 1),
         heat: value_in(file, s, RecordType::QuarterTotals, 0, 2),
         nox: value_in(file, s, RecordType::QuarterTotals, 0, 3),
+        nox_tons: value_in(file, s, RecordType::QuarterTotals, 0, 4),
     }
 }

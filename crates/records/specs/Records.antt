@@ -50,7 +50,7 @@ datedRecord name t date h = valued (valuesOf t) (hourValues t h) (put (dateColum
 
 -- in the order of the columns of record 301
 abbrev pub totalValues : Quarter → List ℕ
-totalValues q = q .so2 ∷ q .co2 ∷ q .heat ∷ q .nox ∷ []
+totalValues q = q .so2 ∷ q .co2 ∷ q .heat ∷ q .nox ∷ q .«nox_tons» ∷ []
 
 unfoldable pub totalsRecord : List ℕ → Quarter → List ℕ
 totalsRecord name q = valued (valuesOf QuarterTotals) (totalValues q) (headed QuarterTotals name)

@@ -58,16 +58,16 @@ fn hour_values(t: RecordType, h: Hour) -> [u64; layout::MOST_VALUES]
     ensures { λ r. ⌜ take (valueCount t) r ≡ hourValues t h ⌝ }
 {
     match t {
-        RecordType::Facility => [0, 0, 0, 0],
-        RecordType::So2Concentration => [h.readings.so2, 0, 0, 0],
-        RecordType::NoxConcentration => [h.readings.nox, 0, 0, 0],
-        RecordType::Co2Concentration => [h.readings.co2, 0, 0, 0],
-        RecordType::VolumetricFlow => [values::scfh_of(h.readings.flow), 0, 0, 0],
-        RecordType::Operation => [h.time, h.figures.heat, 0, 0],
-        RecordType::QuarterTotals => [0, 0, 0, 0],
-        RecordType::So2Mass => [h.figures.so2, 0, 0, 0],
-        RecordType::NoxRate => [h.readings.fc, h.figures.nox, 0, 0],
-        RecordType::Co2Mass => [h.figures.co2, 0, 0, 0],
+        RecordType::Facility => [0, 0, 0, 0, 0],
+        RecordType::So2Concentration => [h.readings.so2, 0, 0, 0, 0],
+        RecordType::NoxConcentration => [h.readings.nox, 0, 0, 0, 0],
+        RecordType::Co2Concentration => [h.readings.co2, 0, 0, 0, 0],
+        RecordType::VolumetricFlow => [values::scfh_of(h.readings.flow), 0, 0, 0, 0],
+        RecordType::Operation => [h.time, h.figures.heat, 0, 0, 0],
+        RecordType::QuarterTotals => [0, 0, 0, 0, 0],
+        RecordType::So2Mass => [h.figures.so2, 0, 0, 0, 0],
+        RecordType::NoxRate => [h.readings.fc, h.figures.nox, 0, 0, 0],
+        RecordType::Co2Mass => [h.figures.co2, 0, 0, 0, 0],
     }
 }
 
@@ -89,7 +89,7 @@ fn totals_record(line: &mut [u8], name: &[u8], q: Quarter)
     write_values(
         line,
         RecordType::QuarterTotals,
-        [q.so2, q.co2, q.heat, q.nox],
+        [q.so2, q.co2, q.heat, q.nox, q.nox_tons],
     );
 }
 

@@ -13,7 +13,8 @@ use Rattle.exact.specs.Rounding.{recorded, nearest, halfUp}
 use Rattle.exact.specs.RoundingLaws.{nearest-reduced}
 use Rattle.exact.specs.Sums.{hundredths}
 use Rattle.formulas.specs.Hour.{tenth, thousandth}
-use Rattle.totals.specs.Totals.{poundsPerTon, mostShare, mostSum, Share, shares, shareOf, noTotals, ShareRoom, added, withHour, Room, meanOf, quarterOf}
+use Rattle.totals.specs.Totals.{Share, shares, shareOf, noTotals, added, withHour, mostShare, mostSum, ShareRoom, Room}
+use Rattle.totals.specs.Totals.{meanOf, poundsPerTon, millionths, quarterOf}
 use Rattle.formulas.specs.declared.hour.Figures.{Figures}
 use Rattle.totals.specs.declared.Totals.{Totals}
 use Rattle.totals.specs.declared.Quarter.{Quarter}
@@ -102,11 +103,17 @@ pub amounts : (sum : ℕ) → nearest sum 100 ≡ halfUp tenth (hundredths tenth
 unfolding over
 amounts sum = nearest-reduced 10 _ _ _ _ (lit< tt) (omega arith) (omega arith)
 
-pub quarter-at : (t : Totals) {so2 co2 heat nox : ℕ} →
+pub mass-tons : (sum : ℕ) → nearest sum 200_000_000 ≡ halfUp tenth (millionths sum ÷ whole poundsPerTon)
+unfolding over
+mass-tons sum = nearest-reduced 10 _ _ _ _ (lit< tt) (omega arith) (omega arith)
+
+pub quarter-at : (t : Totals) {so2 co2 heat nox mass : ℕ} →
     so2 ≡ nearest (getD (t .sums) 0 0) 200_000 →
     co2 ≡ nearest (getD (t .sums) 1 0) 100 →
     heat ≡ nearest (getD (t .sums) 2 0) 100 →
     nox ≡ meanOf (getD (t .sums) 3 0) (t .hours) →
-    _≡_ {A = Quarter} (record { hours = t .hours; so2 = so2; co2 = co2; heat = heat; nox = nox }) (quarterOf t)
+    mass ≡ nearest (getD (t .sums) 4 0) 200_000_000 →
+    _≡_ {A = Quarter} (record { hours = t .hours; so2 = so2; co2 = co2; heat = heat; nox = nox; «nox_tons» = mass }) (quarterOf t)
 unfolding quarterOf
-quarter-at t s c h n = rw (s ∙ tons (getD (t .sums) 0 0), c ∙ amounts (getD (t .sums) 1 0), h ∙ amounts (getD (t .sums) 2 0), n)
+quarter-at t s c h n m =
+    rw (s ∙ tons (getD (t .sums) 0 0), c ∙ amounts (getD (t .sums) 1 0), h ∙ amounts (getD (t .sums) 2 0), n, m ∙ mass-tons (getD (t .sums) 4 0))

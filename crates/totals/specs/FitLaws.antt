@@ -6,11 +6,12 @@ use native.Mathlib.Nat.{mul-le-mul, div-lt-iff-lt-mul}
 use lib.ListN.{length}
 use Rattle.calendar.specs.Calendar.{mostHours}
 use Rattle.exact.specs.Fraction.{over}
+use Rattle.exact.specs.Rounding.{nearest}
 use Rattle.exact.specs.Sums.{totalOf}
-use Rattle.layout.specs.Layout.{so2Tons, co2Tons, heatTotal, noxMean, so2Rate, co2Rate, heatRate, timeHours, Within}
+use Rattle.layout.specs.Layout.{so2Tons, co2Tons, heatTotal, noxMean, noxTons, so2Rate, co2Rate, heatRate, noxRate, timeHours, Within}
 use Rattle.formulas.specs.Hour.{HourWithin, HoursWithin}
 use Rattle.formulas.specs.declared.hour.Hour.{Hour}
-use Rattle.totals.specs.Totals.{totalsOf, meanOf, quarterOf, quarterTotals}
+use Rattle.totals.specs.Totals.{massShare, totalsOf, meanOf, quarterOf, quarterTotals}
 use Rattle.totals.specs.declared.Quarter.{Quarter}
 
 pub record QuarterWithin (q : Quarter) : Type 0 where
@@ -18,6 +19,7 @@ pub record QuarterWithin (q : Quarter) : Type 0 where
   pub co2 : Within co2Tons (q .co2)
   pub heat : Within heatTotal (q .heat)
   pub nox : Within noxMean (q .nox)
+  pub nox-tons : Within noxTons (q .«nox_tons»)
 
 -- if one hour's share is at most c, then n hours' is at most n × c
 total-le : (m : Hour → ℕ) (c : ℕ) → ((h : Hour) → HourWithin h → m h ≤ c) → (hs : List Hour) → HoursWithin hs → totalOf m hs ≤ length hs * c
@@ -37,11 +39,16 @@ mean-le sum (suc n) h =
 abbrev pub mostTotal : ℕ
 mostTotal = mostHours * heatRate .most
 
+-- nor are its NOx tons: the largest NOx rate and heat input in each of them
+abbrev pub mostNoxTons : ℕ
+mostNoxTons = nearest (mostHours * (noxRate .most * heatRate .most * timeHours .most)) 200_000_000
+
 pub record QuarterMost (q : Quarter) : Type 0 where
   pub hours : q .hours ≤ mostHours
   pub so2 : q .so2 ≤ mostTotal
   pub co2 : q .co2 ≤ mostTotal
   pub heat : q .heat ≤ mostTotal
+  pub nox-tons : q .«nox_tons» ≤ mostNoxTons
 
 module _ (hs : List Hour) (w : HoursWithin hs) (b : length hs ≤ mostHours) where
   pub totals-most : QuarterMost (quarterTotals hs)
@@ -50,7 +57,9 @@ module _ (hs : List Hour) (w : HoursWithin hs) (b : length hs ≤ mostHours) whe
       let s = total-le (λ h. h .figures .so2 * h .time) (so2Rate .most * timeHours .most) (λ h r. mul-le-mul (r .figures .so2 .most) (r .time .most)) hs w in
       let c = total-le (λ h. h .figures .co2 * h .time) (co2Rate .most * timeHours .most) (λ h r. mul-le-mul (r .figures .co2 .most) (r .time .most)) hs w in
       let e = total-le (λ h. h .figures .heat * h .time) (heatRate .most * timeHours .most) (λ h r. mul-le-mul (r .figures .heat .most) (r .time .most)) hs w in
-      record { hours = b; so2 = omega arith; co2 = omega arith; heat = omega arith }
+      let m = total-le (λ h. massShare (h .figures) (h .time)) (noxRate .most * heatRate .most * timeHours .most)
+      (λ h r. mul-le-mul (mul-le-mul (r .figures .nox .most) (r .figures .heat .most)) (r .time .most)) hs w in
+      record { hours = b; so2 = omega arith; co2 = omega arith; heat = omega arith; nox-tons = omega arith }
 
   nox-most : quarterTotals hs .nox ≤ noxMean .most
   unfolding quarterTotals quarterOf totalsOf
@@ -64,4 +73,5 @@ module _ (hs : List Hour) (w : HoursWithin hs) (b : length hs ≤ mostHours) whe
         co2 = record { least = omega arith; most = omega (arith, m .co2); whole = omega arith };
         heat = record { least = omega arith; most = omega (arith, m .heat); whole = omega arith };
         nox = record { least = omega arith; most = nox-most; whole = omega arith };
+        nox-tons = record { least = omega arith; most = omega (arith, m .nox-tons); whole = omega arith };
       }

@@ -1,3 +1,5 @@
 pub mod Totals
 pub mod TotalLaws
 pub mod FitLaws
+pub mod Mass
+pub mod MassLaws

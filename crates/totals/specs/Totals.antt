@@ -2,9 +2,10 @@
 use Prim.Native.Nat.{ℕ, _+_, _*_, _≤_, _^_}
 use mathlib.Core.Path.{_≡_}
 use mathlib.Core.List.{List, [], _∷_, map}
+use lib.Dec.{lit<}
 use lib.ListN.{length, getD}
 use Rattle.calendar.specs.Calendar.{mostHours}
-use Rattle.exact.specs.Fraction.{_÷_, whole}
+use Rattle.exact.specs.Fraction.{Fraction, _÷_, fraction, whole}
 use Rattle.exact.specs.Rounding.{recorded, halfUp}
 use Rattle.exact.specs.Sums.{totalOf, hundredths}
 use Rattle.formulas.specs.Hour.{tenth, thousandth}
@@ -17,9 +18,13 @@ use Rattle.totals.specs.declared.Quarter.{Quarter}
 abbrev pub Share : Type 0
 Share = Figures → ℕ → ℕ
 
--- the sums, in the order of record 301: SO2, CO2 and heat input as rate × time, NOx rates as they are
+-- F-24: NOx by mass is rate × heat input × time
+abbrev pub massShare : Share
+massShare f time = f .nox * f .heat * time
+
+-- the sums, in the order of record 301: SO2, CO2 and heat input as rate × time, NOx rates as they are, and NOx by mass
 abbrev pub shares : List Share
-shares = (λ f time. f .so2 * time) ∷ (λ f time. f .co2 * time) ∷ (λ f time. f .heat * time) ∷ (λ f time. f .nox) ∷ []
+shares = (λ f time. f .so2 * time) ∷ (λ f time. f .co2 * time) ∷ (λ f time. f .heat * time) ∷ (λ f time. f .nox) ∷ massShare ∷ []
 
 abbrev pub shareOf : Figures → ℕ → List ℕ
 shareOf f time = map (λ (s : Share). s f time) shares
@@ -74,7 +79,11 @@ meanOf sum n = halfUp thousandth (recorded thousandth sum ÷ whole n)
 abbrev pub poundsPerTon : ℕ
 poundsPerTon = 2000
 
--- the quarter: SO2 in tons of pounds; CO2 is in tons already
+-- a sum of NOx by mass is in millionths of a pound: thousandths × tenths × hundredths
+abbrev pub millionths : ℕ → Fraction
+millionths n = fraction n 1_000_000 (lit< tt)
+
+-- the quarter: SO2 and NOx in tons of pounds; CO2 is in tons already
 unfoldable pub quarterOf : Totals → Quarter
 quarterOf t = record {
   hours = t .hours;
@@ -82,6 +91,7 @@ quarterOf t = record {
   co2 = halfUp tenth (hundredths tenth (getD (t .sums) 1 0) ÷ whole 1);
   heat = halfUp tenth (hundredths tenth (getD (t .sums) 2 0) ÷ whole 1);
   nox = meanOf (getD (t .sums) 3 0) (t .hours);
+  «nox_tons» = halfUp tenth (millionths (getD (t .sums) 4 0) ÷ whole poundsPerTon);
 }
 
 -- the totals of a list of hours, as line 301 has them

@@ -52,20 +52,21 @@ worked =
     48 ∷ 48 ∷ 48 ∷ 48 ∷ 48 ∷ 48 ∷ 10 ∷ 51 ∷ 48 ∷ 48 ∷ 83 ∷ 84 ∷ 65 ∷ 67 ∷ 75 ∷ 49 ∷ 48 ∷ 53 ∷ 48 ∷ 55 ∷ 48 ∷ 49 ∷ 48 ∷ 48 ∷ 48 ∷ 46 ∷ 53 ∷ 48 ∷
     32 ∷ 32 ∷ 32 ∷ 32 ∷ 32 ∷ 32 ∷ 32 ∷ 32 ∷ 32 ∷ 32 ∷ 32 ∷ 32 ∷ 32 ∷ 32 ∷ 32 ∷ 49 ∷ 51 ∷ 51 ∷ 51 ∷ 46 ∷ 51 ∷ 10 ∷ 51 ∷ 48 ∷ 49 ∷ 83 ∷ 84 ∷ 65 ∷
     67 ∷ 75 ∷ 49 ∷ 32 ∷ 32 ∷ 32 ∷ 32 ∷ 32 ∷ 32 ∷ 32 ∷ 32 ∷ 48 ∷ 46 ∷ 50 ∷ 32 ∷ 32 ∷ 32 ∷ 32 ∷ 32 ∷ 32 ∷ 32 ∷ 54 ∷ 56 ∷ 46 ∷ 52 ∷ 32 ∷ 32 ∷ 32 ∷
-    32 ∷ 32 ∷ 32 ∷ 54 ∷ 54 ∷ 54 ∷ 46 ∷ 55 ∷ 32 ∷ 48 ∷ 46 ∷ 51 ∷ 53 ∷ 56 ∷ 10 ∷ 51 ∷ 49 ∷ 48 ∷ 83 ∷ 84 ∷ 65 ∷ 67 ∷ 75 ∷ 49 ∷ 48 ∷ 53 ∷ 48 ∷ 55 ∷
-    48 ∷ 49 ∷ 48 ∷ 48 ∷ 32 ∷ 32 ∷ 32 ∷ 32 ∷ 32 ∷ 32 ∷ 32 ∷ 32 ∷ 32 ∷ 56 ∷ 51 ∷ 48 ∷ 46 ∷ 48 ∷ 32 ∷ 32 ∷ 32 ∷ 10 ∷ 51 ∷ 50 ∷ 48 ∷ 83 ∷ 84 ∷ 65 ∷
-    67 ∷ 75 ∷ 49 ∷ 32 ∷ 32 ∷ 32 ∷ 48 ∷ 53 ∷ 48 ∷ 55 ∷ 48 ∷ 49 ∷ 48 ∷ 48 ∷ 32 ∷ 32 ∷ 32 ∷ 32 ∷ 32 ∷ 32 ∷ 32 ∷ 32 ∷ 32 ∷ 49 ∷ 56 ∷ 48 ∷ 48 ∷ 46 ∷
-    48 ∷ 32 ∷ 48 ∷ 46 ∷ 51 ∷ 53 ∷ 56 ∷ 32 ∷ 32 ∷ 32 ∷ 32 ∷ 32 ∷ 32 ∷ 32 ∷ 32 ∷ 32 ∷ 32 ∷ 32 ∷ 32 ∷ 32 ∷ 10 ∷ 51 ∷ 51 ∷ 48 ∷ 83 ∷ 84 ∷ 65 ∷ 67 ∷
-    75 ∷ 49 ∷ 48 ∷ 53 ∷ 48 ∷ 55 ∷ 48 ∷ 49 ∷ 48 ∷ 48 ∷ 32 ∷ 32 ∷ 49 ∷ 51 ∷ 54 ∷ 46 ∷ 56 ∷ 10 ∷ []
+    32 ∷ 32 ∷ 32 ∷ 54 ∷ 54 ∷ 54 ∷ 46 ∷ 55 ∷ 32 ∷ 48 ∷ 46 ∷ 51 ∷ 53 ∷ 56 ∷ 32 ∷ 32 ∷ 32 ∷ 32 ∷ 32 ∷ 32 ∷ 32 ∷ 32 ∷ 48 ∷ 46 ∷ 49 ∷ 10 ∷ 51 ∷ 49 ∷
+    48 ∷ 83 ∷ 84 ∷ 65 ∷ 67 ∷ 75 ∷ 49 ∷ 48 ∷ 53 ∷ 48 ∷ 55 ∷ 48 ∷ 49 ∷ 48 ∷ 48 ∷ 32 ∷ 32 ∷ 32 ∷ 32 ∷ 32 ∷ 32 ∷ 32 ∷ 32 ∷ 32 ∷ 56 ∷ 51 ∷ 48 ∷ 46 ∷
+    48 ∷ 32 ∷ 32 ∷ 32 ∷ 10 ∷ 51 ∷ 50 ∷ 48 ∷ 83 ∷ 84 ∷ 65 ∷ 67 ∷ 75 ∷ 49 ∷ 32 ∷ 32 ∷ 32 ∷ 48 ∷ 53 ∷ 48 ∷ 55 ∷ 48 ∷ 49 ∷ 48 ∷ 48 ∷ 32 ∷ 32 ∷ 32 ∷
+    32 ∷ 32 ∷ 32 ∷ 32 ∷ 32 ∷ 32 ∷ 49 ∷ 56 ∷ 48 ∷ 48 ∷ 46 ∷ 48 ∷ 32 ∷ 48 ∷ 46 ∷ 51 ∷ 53 ∷ 56 ∷ 32 ∷ 32 ∷ 32 ∷ 32 ∷ 32 ∷ 32 ∷ 32 ∷ 32 ∷ 32 ∷ 32 ∷
+    32 ∷ 32 ∷ 32 ∷ 10 ∷ 51 ∷ 51 ∷ 48 ∷ 83 ∷ 84 ∷ 65 ∷ 67 ∷ 75 ∷ 49 ∷ 48 ∷ 53 ∷ 48 ∷ 55 ∷ 48 ∷ 49 ∷ 48 ∷ 48 ∷ 32 ∷ 32 ∷ 49 ∷ 51 ∷ 54 ∷ 46 ∷ 56 ∷
+    10 ∷ []
 
 -- without hours, and with zero totals
 unfoldable pub empty : List ℕ
 empty =
     49 ∷ 48 ∷ 48 ∷ 83 ∷ 84 ∷ 65 ∷ 67 ∷ 75 ∷ 49 ∷ 50 ∷ 48 ∷ 48 ∷ 53 ∷ 51 ∷ 10 ∷ 51 ∷ 48 ∷ 49 ∷ 83 ∷ 84 ∷ 65 ∷ 67 ∷ 75 ∷ 49 ∷ 32 ∷ 32 ∷ 32 ∷ 32 ∷
     32 ∷ 32 ∷ 32 ∷ 32 ∷ 48 ∷ 46 ∷ 48 ∷ 32 ∷ 32 ∷ 32 ∷ 32 ∷ 32 ∷ 32 ∷ 32 ∷ 32 ∷ 48 ∷ 46 ∷ 48 ∷ 32 ∷ 32 ∷ 32 ∷ 32 ∷ 32 ∷ 32 ∷ 32 ∷ 32 ∷ 48 ∷ 46 ∷
-    48 ∷ 32 ∷ 48 ∷ 46 ∷ 48 ∷ 48 ∷ 48 ∷ 10 ∷ []
+    48 ∷ 32 ∷ 48 ∷ 46 ∷ 48 ∷ 48 ∷ 48 ∷ 32 ∷ 32 ∷ 32 ∷ 32 ∷ 32 ∷ 32 ∷ 32 ∷ 32 ∷ 48 ∷ 46 ∷ 48 ∷ 10 ∷ []
 
-pub worked-written : (answered 2005 3 stack workedSheet 382 ≡ Length 382) × (buffered 2005 3 stack workedSheet (replicate 382 0) ≡ worked)
+pub worked-written : (answered 2005 3 stack workedSheet 393 ≡ Length 393) × (buffered 2005 3 stack workedSheet (replicate 393 0) ≡ worked)
 unfolding worked all put digitsOf digitOrBlank leading wholeWritten fixedWritten written leapYear daysInMonth daysInQuarter hoursInQuarter daysBefore
     monthOfDay dateOfHour over totalOf stampNumber stampOf roundedValue roundedFigures totalsOf meanOf quarterOf quarterTotals sheetHour ranked
     sheetHours reportLength within every headingHolds kindsRise kindsHold hourHolds hoursRise sheetHolds readingsHold figuresHold
@@ -75,19 +76,19 @@ worked-written = (refl, refl)
 -- flows that are no whole thousand, or past the limit, or both, and flows that are taken
 
 abbrev answersTo : List ℕ → List Written
-answersTo flows = map (λ scfh. answered 2005 3 stack (sheetWith scfh) 382) flows
+answersTo flows = map (λ scfh. answered 2005 3 stack (sheetWith scfh) 393) flows
 
 pub flow-refused : answersTo (20_000_500 ∷ 20_000_001 ∷ 19_999_999 ∷ 1 ∷ 500_001_000 ∷ 500_000_001 ∷ []) ≡ replicate 6 (Refused 32)
 unfolding all leapYear daysInMonth daysInQuarter hoursInQuarter over roundedValue roundedFigures sheetHour ranked sheetHours reportLength within every
     headingHolds kindsRise kindsHold hourHolds hoursRise sheetHolds readingsHold figuresHold refusalOf answered
 flow-refused = refl
 
-pub flow-taken : answersTo (0 ∷ 1000 ∷ 19_999_000 ∷ 500_000_000 ∷ []) ≡ replicate 4 (Length 382)
+pub flow-taken : answersTo (0 ∷ 1000 ∷ 19_999_000 ∷ 500_000_000 ∷ []) ≡ replicate 4 (Length 393)
 unfolding all leapYear daysInMonth daysInQuarter hoursInQuarter over totalOf roundedValue roundedFigures sheetHour ranked sheetHours reportLength within every
     headingHolds kindsRise kindsHold hourHolds hoursRise sheetHolds readingsHold figuresHold refusalOf answered
 flow-taken = refl
 
-pub empty-written : (answered 2005 3 stack [] 64 ≡ Length 64) × (buffered 2005 3 stack [] (replicate 64 0) ≡ empty)
+pub empty-written : (answered 2005 3 stack [] 75 ≡ Length 75) × (buffered 2005 3 stack [] (replicate 75 0) ≡ empty)
 unfolding empty all put digitsOf digitOrBlank leading wholeWritten fixedWritten written leapYear daysInMonth daysInQuarter hoursInQuarter daysBefore
     monthOfDay dateOfHour over totalOf stampNumber stampOf roundedValue roundedFigures totalsOf meanOf quarterOf quarterTotals sheetHour ranked
     sheetHours reportLength within every headingHolds kindsRise kindsHold hourHolds hoursRise sheetHolds readingsHold figuresHold

@@ -5,7 +5,9 @@ use std::fmt;
 
 #[link(name = "edr_c", kind = "static")]
 extern "C" {
-    fn edr_check(file: *const u8, length: usize, answer: *mut u64, room: usize) -> u64;
+    /// The call behind [`check`], for an answer of any room: see include/edr.h. The tests lend it too little.
+    pub fn edr_check(file: *const u8, length: usize, answer: *mut u64, room: usize) -> u64;
+
     fn edr_write(
         year: u64,
         quarter: u64,
@@ -42,11 +44,11 @@ extern "C" {
 }
 
 /// The numbers of an answer, and the code with which `edr_check` returns an acceptance.
-const ANSWER_LENGTH: usize = 5;
+const ANSWER_LENGTH: usize = 6;
 const ACCEPTED: u64 = 1;
 
 /// The numbers of a record of the year to date, and the code with which `edr_year_to_date` returns one.
-const YEAR_LENGTH: usize = 6;
+const YEAR_LENGTH: usize = 7;
 const JOINED: u64 = 1;
 
 /// The numbers of the answer to an hour from a recorder, and the code with which `edr_recorder_words` returns its words.
@@ -63,7 +65,7 @@ pub enum Answer {
 }
 
 /// An accepted quarter: its operating hours; SO2 tons, CO2 tons and heat input (mmBtu) in tenths; the mean NOx rate (lb/mmBtu) in
-/// thousandths.
+/// thousandths; NOx tons in tenths.
 #[derive(Clone, Copy, Debug, PartialEq, Eq)]
 pub struct Quarter {
     pub hours: u64,
@@ -71,6 +73,7 @@ pub struct Quarter {
     pub co2: u64,
     pub heat: u64,
     pub nox: u64,
+    pub nox_tons: u64,
 }
 
 /// What the writer did.
@@ -82,7 +85,7 @@ pub enum Written {
     Refused(u64),
 }
 
-/// The year to date after a quarter: year and quarter; operating hours; SO2 tons, CO2 tons and heat input (mmBtu) in tenths.
+/// The year to date after a quarter: year and quarter; operating hours; SO2 tons, CO2 tons, heat input (mmBtu) and NOx tons in tenths.
 #[derive(Clone, Copy, Debug, PartialEq, Eq)]
 pub struct YearToDate {
     pub year: u64,
@@ -91,12 +94,13 @@ pub struct YearToDate {
     pub so2: u64,
     pub co2: u64,
     pub heat: u64,
+    pub nox_tons: u64,
 }
 
 impl YearToDate {
     /// Quarter 0 of a year, all zeros, which quarter 1 is joined to.
     pub const fn none(year: u64) -> YearToDate {
-        YearToDate { year, quarter: 0, hours: 0, so2: 0, co2: 0, heat: 0 }
+        YearToDate { year, quarter: 0, hours: 0, so2: 0, co2: 0, heat: 0, nox_tons: 0 }
     }
 }
 
@@ -158,7 +162,7 @@ pub const RECORDER_READINGS: usize = 4;
 
 /// The bytes of a report of so many operating hours and no idle ones. No accepted report has more than that of [`MOST_HOURS`].
 pub const fn report_length(hours: usize) -> usize {
-    64 + 318 * hours
+    75 + 318 * hours
 }
 
 /// The kinds of a sheet's words, in the order in which an hour's words stand, and what their values count.
@@ -238,6 +242,7 @@ pub const fn meaning(number: u64) -> &'static str {
         45 => "a reading of the recorder's hour is negative or not finite",
         46 => "a reading of the recorder's hour, once rounded, is outside its range or its columns",
         47 => "the time is 0.00 and the heat input is not blank",
+        48 => "line 301's NOx tons differ from the total formed",
         _ => "no refusal has this number",
     }
 }
@@ -247,9 +252,9 @@ pub fn check(file: &[u8]) -> Answer {
     let mut answer = [0; ANSWER_LENGTH];
     // SAFETY: each pointer and length are those of a slice that is borrowed for the call.
     let code = unsafe { edr_check(file.as_ptr(), file.len(), answer.as_mut_ptr(), answer.len()) };
-    let [hours, so2, co2, heat, nox] = answer;
+    let [hours, so2, co2, heat, nox, nox_tons] = answer;
     match code {
-        ACCEPTED => Answer::Accepted(Quarter { hours, so2, co2, heat, nox }),
+        ACCEPTED => Answer::Accepted(Quarter { hours, so2, co2, heat, nox, nox_tons }),
         _ => Answer::Refused { number: answer[0], line: answer[1] },
     }
 }
@@ -278,9 +283,16 @@ pub fn write(year: u64, quarter: u64, name: &[u8], sheet: &[u32], buffer: &mut [
 
 /// Adds an accepted quarter of a year to the year to date, which is [`YearToDate::none`] before quarter 1.
 pub fn join(previous: YearToDate, year: u64, quarter: u64, answer: Quarter) -> Joined {
-    let previous =
-        [previous.year, previous.quarter, previous.hours, previous.so2, previous.co2, previous.heat];
-    let answer = [answer.hours, answer.so2, answer.co2, answer.heat, answer.nox];
+    let previous = [
+        previous.year,
+        previous.quarter,
+        previous.hours,
+        previous.so2,
+        previous.co2,
+        previous.heat,
+        previous.nox_tons,
+    ];
+    let answer = [answer.hours, answer.so2, answer.co2, answer.heat, answer.nox, answer.nox_tons];
     let mut record = [0; YEAR_LENGTH];
     // SAFETY: each pointer and length are those of an array that is borrowed for the call.
     let code = unsafe {
@@ -295,9 +307,9 @@ pub fn join(previous: YearToDate, year: u64, quarter: u64, answer: Quarter) -> J
             record.len(),
         )
     };
-    let [year, quarter, hours, so2, co2, heat] = record;
+    let [year, quarter, hours, so2, co2, heat, nox_tons] = record;
     match code {
-        JOINED => Joined::Record(YearToDate { year, quarter, hours, so2, co2, heat }),
+        JOINED => Joined::Record(YearToDate { year, quarter, hours, so2, co2, heat, nox_tons }),
         _ => Joined::Refused(record[0]),
     }
 }
@@ -330,8 +342,8 @@ pub fn recorder_words(hour: RecorderHour) -> Recorded {
 impl fmt::Display for Answer {
     fn fmt(&self, out: &mut fmt::Formatter) -> fmt::Result {
         match self {
-            Answer::Accepted(Quarter { hours, so2, co2, heat, nox }) => {
-                write!(out, "accepted {hours} {so2} {co2} {heat} {nox}")
+            Answer::Accepted(Quarter { hours, so2, co2, heat, nox, nox_tons }) => {
+                write!(out, "accepted {hours} {so2} {co2} {heat} {nox} {nox_tons}")
             }
             Answer::Refused { number, line } => write!(out, "refused {number} {line}"),
         }
@@ -349,8 +361,8 @@ impl fmt::Display for Written {
 
 impl fmt::Display for YearToDate {
     fn fmt(&self, out: &mut fmt::Formatter) -> fmt::Result {
-        let YearToDate { year, quarter, hours, so2, co2, heat } = self;
-        write!(out, "year to date {year} {quarter} {hours} {so2} {co2} {heat}")
+        let YearToDate { year, quarter, hours, so2, co2, heat, nox_tons } = self;
+        write!(out, "year to date {year} {quarter} {hours} {so2} {co2} {heat} {nox_tons}")
     }
 }
 

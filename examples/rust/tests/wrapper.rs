@@ -1,16 +1,18 @@
-//! The wrapper's refusals are those of README.md and of include/edr.h; words too large for a sheet are refused, times of 0, and flows
-//! that are not whole thousands; quarters join in order and within their limits; a recorder's readings are rounded by their exact values,
-//! and refused reading by reading; README.md shows what the examples of the year to date and of a recorder's hour print.
+//! The wrapper's refusals are those of README.md and of include/edr.h; line 301 has NOx tons; words too large for a sheet are refused,
+//! times of 0, and flows that are not whole thousands; quarters join in order and within their limits; what is too short for an answer is
+//! left as it was; a recorder's readings are rounded by their exact values, and refused reading by reading; README.md shows what the
+//! examples of the year to date and of a recorder's hour print.
 
 use std::collections::BTreeMap;
 
 use edr::Reading::{self, Absent, Measured, Substituted};
-use edr::{hour_word, word, Joined, Kind, Quarter, Recorded, RecorderHour, Written, YearToDate};
+use edr::{hour_word, word, Answer, Joined, Kind, Quarter, Recorded, RecorderHour, Written, YearToDate};
 
 const README: &str = include_str!("../../../README.md");
 const HEADER: &str = include_str!("../../../include/edr.h");
 const YEAR_PRINTED: &str = include_str!("../../expected/year_to_date");
 const HOUR_PRINTED: &str = include_str!("../../expected/recorder_hour");
+const WORKED_HOUR: &str = include_str!("../../../samples/worked-hour.txt");
 
 /// Number and meaning of each row of the table of refusals.
 fn rows() -> BTreeMap<u64, &'static str> {
@@ -35,6 +37,64 @@ fn the_header_names_the_same_numbers() {
     assert_eq!(numbers, Some(rows().into_keys().collect()));
 }
 
+#[test]
+fn line_301_has_nox_tons() {
+    let accepted = Quarter { hours: 1, so2: 2, co2: 684, heat: 6_667, nox: 358, nox_tons: 1 };
+    assert_eq!(edr::check(WORKED_HOUR.as_bytes()), Answer::Accepted(accepted));
+    let lines_301 = [
+        (" 0.358        0.2\n", 48),
+        (" 0.359        0.2\n", 24),
+        (" 0.358      9.9.9\n", 8),
+        (" 0.358           \n", 8),
+        (" 0.358\n", 3), // the former form
+    ];
+    for (end, number) in lines_301 {
+        let file = WORKED_HOUR.replace(" 0.358        0.1\n", end);
+        assert_eq!(edr::check(file.as_bytes()), Answer::Refused { number, line: 7 }, "{end}");
+    }
+}
+
+/// What stands in elements that a call must leave.
+const KEPT: u64 = 77;
+
+#[test]
+fn an_answer_too_short_is_left() {
+    for (room, code) in [(0, 2), (5, 2), (6, 1), (7, 1)] {
+        let mut answer = [KEPT; 8];
+        // SAFETY: each pointer and length are those of memory that is borrowed for the call.
+        let returned =
+            unsafe { edr::edr_check(WORKED_HOUR.as_ptr(), WORKED_HOUR.len(), answer.as_mut_ptr(), room) };
+        let filled = if code == 1 { [1, 2, 684, 6_667, 358, 1, KEPT, KEPT] } else { [KEPT; 8] };
+        assert_eq!((returned, answer), (code, filled), "{room}");
+    }
+}
+
+#[test]
+fn a_record_too_short_is_left() {
+    let previous = [2005, 1, 2160, 4_500, 1_500_000, 14_000_000, 2_600];
+    let answer = [2184, 4_600, 1_600_000, 15_000_000, 361, 2_700];
+    let joined = [2005, 2, 4344, 9_100, 3_100_000, 29_000_000, 5_300, KEPT];
+    let lengths = [(7, 6, 7, 1), (6, 6, 7, 2), (7, 5, 7, 2), (7, 6, 6, 2)];
+    for (previous_length, answer_length, room, code) in lengths {
+        let mut record = [KEPT; 8];
+        // SAFETY: each pointer is that of an array that is borrowed for the call and has at least so many elements.
+        let returned = unsafe {
+            edr::edr_year_to_date(
+                previous.as_ptr(),
+                previous_length,
+                answer.as_ptr(),
+                answer_length,
+                2005,
+                2,
+                record.as_mut_ptr(),
+                room,
+            )
+        };
+        let filled = if code == 1 { joined } else { [KEPT; 8] };
+        assert_eq!((returned, record), (code, filled), "{previous_length} {answer_length} {room}");
+    }
+}
+
 /// What the writer says to a sheet of one hour.
 fn written(sheet: [u32; edr::HOUR_WORDS]) -> Written {
     edr::write(2005, 3, b"STACK1", &sheet, &mut [0; edr::report_length(1)])
@@ -50,7 +110,7 @@ fn words_out_of_range_are_refused() {
         word(Kind::Flow, 20_000_000),
         word(Kind::Fc, 18_000),
     ];
-    assert_eq!(written(sheet), Written::Length(382));
+    assert_eq!(written(sheet), Written::Length(393));
     let out_of_range = [
         (0, hour_word(0, 0), 32),
         (0, hour_word(0, 128 + 50), 32),
@@ -70,21 +130,37 @@ fn words_out_of_range_are_refused() {
     }
 }
 
-const FIRST: Quarter = Quarter { hours: 2160, so2: 4_500, co2: 1_500_000, heat: 14_000_000, nox: 358 };
-const SECOND: Quarter = Quarter { hours: 2184, so2: 4_600, co2: 1_600_000, heat: 15_000_000, nox: 361 };
+const FIRST: Quarter =
+    Quarter { hours: 2160, so2: 4_500, co2: 1_500_000, heat: 14_000_000, nox: 358, nox_tons: 2_600 };
+const SECOND: Quarter =
+    Quarter { hours: 2184, so2: 4_600, co2: 1_600_000, heat: 15_000_000, nox: 361, nox_tons: 2_700 };
 
 /// The year 2005 after the first of them, and after both.
-const AFTER_ONE: YearToDate =
-    YearToDate { year: 2005, quarter: 1, hours: 2160, so2: 4_500, co2: 1_500_000, heat: 14_000_000 };
-const AFTER_TWO: YearToDate =
-    YearToDate { year: 2005, quarter: 2, hours: 4344, so2: 9_100, co2: 3_100_000, heat: 29_000_000 };
+const AFTER_ONE: YearToDate = YearToDate {
+    year: 2005,
+    quarter: 1,
+    hours: 2160,
+    so2: 4_500,
+    co2: 1_500_000,
+    heat: 14_000_000,
+    nox_tons: 2_600,
+};
+const AFTER_TWO: YearToDate = YearToDate {
+    year: 2005,
+    quarter: 2,
+    hours: 4344,
+    so2: 9_100,
+    co2: 3_100_000,
+    heat: 29_000_000,
+    nox_tons: 5_300,
+};
 
 #[test]
 fn quarters_join_in_order() {
     let none = YearToDate::none(2005);
     assert_eq!(edr::join(none, 2005, 1, FIRST), Joined::Record(AFTER_ONE));
     assert_eq!(edr::join(AFTER_ONE, 2005, 2, SECOND), Joined::Record(AFTER_TWO));
-    assert_eq!(Joined::Record(AFTER_TWO).to_string(), "year to date 2005 2 4344 9100 3100000 29000000");
+    assert_eq!(Joined::Record(AFTER_TWO).to_string(), "year to date 2005 2 4344 9100 3100000 29000000 5300");
     let out_of_order = [
         (none, 2005, 0),
         (none, 2005, 2),
@@ -100,6 +176,7 @@ fn quarters_join_in_order() {
         (YearToDate { so2: 1, ..none }, 2005, 1),
         (YearToDate { co2: 1, ..none }, 2005, 1),
         (YearToDate { heat: 1, ..none }, 2005, 1),
+        (YearToDate { nox_tons: 1, ..none }, 2005, 1),
     ];
     for (previous, year, quarter) in out_of_order {
         let joined = edr::join(previous, year, quarter, SECOND);
@@ -111,10 +188,25 @@ fn quarters_join_in_order() {
 fn quarters_join_within_their_limits() {
     const MOST_HOURS: u64 = edr::MOST_HOURS as u64;
     const MOST: u64 = 9_999_999_999;
-    let previous = YearToDate { hours: 2 * MOST_HOURS, so2: MOST, co2: MOST - 1, heat: 0, ..AFTER_TWO };
-    let answer = Quarter { hours: MOST_HOURS, so2: 0, co2: 1, heat: MOST, nox: u64::MAX };
+    let previous = YearToDate {
+        hours: 2 * MOST_HOURS,
+        so2: MOST,
+        co2: MOST - 1,
+        heat: 0,
+        nox_tons: MOST - 2,
+        ..AFTER_TWO
+    };
+    let answer = Quarter { hours: MOST_HOURS, so2: 0, co2: 1, heat: MOST, nox: u64::MAX, nox_tons: 2 };
     let joined = |previous, answer| edr::join(previous, 2005, 3, answer);
-    let most = YearToDate { quarter: 3, hours: 3 * MOST_HOURS, so2: MOST, co2: MOST, heat: MOST, ..previous };
+    let most = YearToDate {
+        quarter: 3,
+        hours: 3 * MOST_HOURS,
+        so2: MOST,
+        co2: MOST,
+        heat: MOST,
+        nox_tons: MOST,
+        ..previous
+    };
     assert_eq!(joined(previous, answer), Joined::Record(most));
     let beyond = [
         (YearToDate { hours: previous.hours + 1, ..previous }, answer, 41),
@@ -122,6 +214,9 @@ fn quarters_join_within_their_limits() {
         (previous, Quarter { so2: 1, ..answer }, 42),
         (previous, Quarter { co2: 2, ..answer }, 42),
         (YearToDate { heat: 1, ..previous }, answer, 42),
+        (previous, Quarter { nox_tons: 3, ..answer }, 42),
+        (YearToDate { nox_tons: u64::MAX, ..previous }, answer, 42),
+        (previous, Quarter { hours: answer.hours + 1, nox_tons: 3, ..answer }, 41),
         (YearToDate { so2: u64::MAX, ..previous }, Quarter { so2: u64::MAX, ..answer }, 42),
         (previous, Quarter { hours: u64::MAX, so2: u64::MAX, ..answer }, 41),
     ];

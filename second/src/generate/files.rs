@@ -10,7 +10,7 @@ use super::{family_of, Family};
 use crate::calendar::{hours_in_quarter, is_leap};
 use crate::figures::{Readings, FIGURES};
 use crate::random::Random;
-use crate::report::{Hour, Report};
+use crate::report::{Hour, Report, TOTALS};
 use crate::rounding::half_up;
 
 /// The families and their shares.
@@ -94,6 +94,9 @@ fn two_impossible(random: &mut Random, turn: usize) -> Vec<u8> {
     bytes(random, &report)
 }
 
+/// The totals in tenths: more than all of them fits into the columns.
+const IN_TENTHS: [usize; 4] = [0, 1, 2, 4];
+
 /// Totals off by one; sometimes two of them, or a figure that fails besides.
 fn off_total(random: &mut Random, turn: usize) -> Vec<u8> {
     let count = random.below(5);
@@ -102,17 +105,17 @@ fn off_total(random: &mut Random, turn: usize) -> Vec<u8> {
         let rank = random.below(count);
         edges::set_at_edge(random, &mut report, rank, FIGURES[turn % 4], 5, true);
     }
-    let total = turn % 4;
-    let up = report.totals[total] == 0 || turn / 4 % 2 == 0;
+    let total = turn % TOTALS;
+    let up = report.totals[total] == 0 || turn / TOTALS % 2 == 0;
     report.totals[total] = if up { report.totals[total] + 1 } else { report.totals[total] - 1 };
     if turn % 7 == 6 {
-        let other = random.below(4);
+        let other = random.below(TOTALS);
         report.totals[other] += 1;
     }
     if turn % 13 == 12 {
         // The right total again, were it cut to 32 bits.
         report.add_up();
-        report.totals[turn % 3] += 1 << 32;
+        report.totals[IN_TENTHS[turn % 4]] += 1 << 32;
     }
     fitting(random, report)
 }
@@ -271,7 +274,7 @@ fn uneven_and_more(random: &mut Random, turn: usize) -> Vec<u8> {
         report(random, count)
     };
     if way == 1 {
-        report.totals[turn % 3] += 1;
+        report.totals[IN_TENTHS[turn % 4]] += 1;
     }
     let mut page = Page::of(&bytes(random, &report));
     let (line, count) = (flows::any_line(random, &page), page.lines.len());

@@ -12,7 +12,7 @@ use super::{family_of, Family};
 use crate::calendar::{eight_digits, hours_in_quarter, moment_of};
 use crate::layout::*;
 use crate::random::Random;
-use crate::report::{PlainPen, Report};
+use crate::report::{PlainPen, Report, TOTALS};
 use crate::rounding::half_up;
 
 /// The place of the 300 lines in `HOURLY`.
@@ -57,7 +57,7 @@ fn operating_before(random: &mut Random, place: usize, operating: usize) -> usiz
 
 /// The report with so many idle hours in this place. All its hours are drawn
 /// anew.
-fn with_idle_hours(random: &mut Random, mut report: Report, place: usize, idle: usize) -> Report {
+pub fn with_idle_hours(random: &mut Random, mut report: Report, place: usize, idle: usize) -> Report {
     let operating = report.hours.len();
     let places: Vec<usize> = (0..idle).map(|_| operating_before(random, place, operating)).collect();
     let mut drawn = rising_hours(random, report.year, report.quarter, operating + idle).into_iter();
@@ -152,9 +152,10 @@ fn wrong_total(random: &mut Random, turn: usize) -> Vec<u8> {
     let (place, operating, idle) = (random.below(4), random.below(4), 1 + random.below(3));
     let mut report = report(random, place, operating, idle);
     let nox: u128 = report.hours.iter().map(|hour| hour.figures[2]).sum();
-    match turn / 4 % 4 {
-        0 | 1 => report.totals[turn % 4] += 1,
-        2 => report.totals[turn % 4] = report.totals[turn % 4].saturating_sub(1),
+    let total = turn % TOTALS;
+    match turn / TOTALS % 4 {
+        0 | 1 => report.totals[total] += 1,
+        2 => report.totals[total] = report.totals[total].saturating_sub(1),
         // The mean over all hours listed.
         _ => report.totals[3] = half_up(nox, (operating + idle) as u128),
     }

@@ -8,12 +8,13 @@ use super::idle_hours;
 use super::page::{two_below, Page};
 use super::recorder::{column_limits, honest_figures};
 use super::sheets::{order, order_in, words_of};
+use super::tons::MOST_WRITTEN;
 use crate::calendar::{eight_digits, hours_in_quarter, moment_of};
 use crate::cases::Case;
 use crate::figures::{Readings, FIGURES};
 use crate::layout::{report_length, DATE_200, HOURLY, R100, R200};
 use crate::random::Random;
-use crate::report::{Hour, PlainPen, Report};
+use crate::report::{Hour, PlainPen, Report, TOTALS};
 use crate::write::{hour_of, report_of, Order, WORDS};
 use std::ops::Range;
 
@@ -29,21 +30,26 @@ const ONE_MORE: usize = 20;
 /// The step that makes a flow no whole thousand.
 const UNEVEN: usize = 21;
 
-/// Which of the full quarters has the largest totals.
-const HEAVIEST: usize = 5;
-
 /// The full quarters in turn: year and quarter.
-const FULL: [(u32, u32); 8] =
-    [(2005, 1), (2000, 1), (2005, 3), (2001, 2), (1996, 1), (2094, 4), (1995, 1), (2092, 2)];
+const FULL: [(u32, u32); 9] =
+    [(2005, 1), (2000, 1), (2005, 3), (2001, 2), (1996, 1), (2094, 4), (1995, 1), (2092, 2), (2008, 3)];
+
+/// The readings of every hour, if that full quarter has large totals.
+fn heaviest(number: usize) -> Option<Readings> {
+    match number {
+        // The largest heat and the largest SO2 figure.
+        5 => Some(Readings { so2: 30_000, nox: 99_999, co2: 996, flow: 200_803, fc: 20_000 }),
+        8 => Some(MOST_WRITTEN),
+        _ => None,
+    }
+}
 
 /// A full quarter, and changes to it.
 pub fn full(random: &mut Random, number: usize) -> Vec<Case> {
     let (year, quarter) = FULL[number % FULL.len()];
     let hours = hours_in_quarter(year, quarter) as usize;
     let mut order = order_in(random, year, quarter, hours);
-    if number == HEAVIEST {
-        // Every hour has the largest heat and the largest SO2 figure.
-        let readings = Readings { so2: 30_000, nox: 99_999, co2: 996, flow: 200_803, fc: 20_000 };
+    if let Some(readings) = heaviest(number) {
         let hour = |hour_of_quarter| Hour { hour_of_quarter, time: 100, readings, figures: [0; 4] };
         order.words = (0..hours as u32).flat_map(|h| words_of(&hour(h))).collect();
     }
@@ -134,9 +140,9 @@ fn changed(random: &mut Random, step: usize, report: &Report) -> Vec<u8> {
                 set_at_edge(random, &mut next, rank, figure, 5, true);
             }
         }
-        4 | 5 => next.totals[(turn + way) % 4] += 1,
+        4 | 5 => next.totals[(turn + way) % TOTALS] += 1,
         6 => {
-            let total = &mut next.totals[random.below(4)];
+            let total = &mut next.totals[random.below(TOTALS)];
             *total = total.saturating_sub(1);
         }
         7 => {
@@ -148,7 +154,7 @@ fn changed(random: &mut Random, step: usize, report: &Report) -> Vec<u8> {
         }
         8 => {
             set_at_edge(random, &mut next, rank, figure, 5, false);
-            next.totals[random.below(4)] += 1;
+            next.totals[random.below(TOTALS)] += 1;
         }
         9 => honest(random, &mut next),
         10 => return report.bytes(&mut PlainPen),

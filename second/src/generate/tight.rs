@@ -12,7 +12,7 @@ use crate::rounding::span;
 
 /// Greatest common divisor g of a and m, and x with `a * x = g` up to
 /// multiples of m.
-fn euclid(a: i128, m: i128) -> (i128, i128) {
+pub fn euclid(a: i128, m: i128) -> (i128, i128) {
     let (mut r0, mut r1, mut x0, mut x1) = (a, m, 1, 0);
     while r1 != 0 {
         let q = r0 / r1;

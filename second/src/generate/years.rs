@@ -1,8 +1,8 @@
 //! Quarters to join to their year: sound ones, every limit and every cause of
 //! refusal, whole years in a row, and slices of all lengths.
 //!
-//! Hours and the three sums are the amounts of a quarter: a record has them
-//! behind its year and quarter, an answer before its mean.
+//! Hours and the four sums are the amounts of a quarter: a record has them behind
+//! its year and quarter, an answer around its mean.
 
 use super::{distinct, family_of, Family};
 use crate::random::Random;
@@ -13,9 +13,13 @@ const YEAR: usize = 0;
 const QUARTER: usize = 1;
 const AMOUNTS: usize = 2;
 
-/// Places among the amounts: the hours, and SO2, CO2 and heat.
+/// Places among the amounts: the hours, and SO2, CO2, heat and NOx tons.
 const HOURS: usize = 0;
-const SUMS: [usize; 3] = [1, 2, 3];
+const SUMS: [usize; 4] = [1, 2, 3, 4];
+
+/// The places of the amounts in an answer, and that of the mean.
+const IN_ANSWER: [usize; 5] = [0, 1, 2, 3, 5];
+const MEAN: usize = 4;
 
 /// A quarter to join, with the slices of the call as they are lent.
 #[derive(Clone, Debug, PartialEq, Eq)]
@@ -38,7 +42,7 @@ impl Joining {
     /// Sets both parts of an amount.
     fn set(&mut self, amount: usize, previous: u64, answer: u64) {
         self.previous[AMOUNTS + amount] = previous;
-        self.answer[amount] = answer;
+        self.answer[IN_ANSWER[amount]] = answer;
     }
 }
 
@@ -93,8 +97,9 @@ fn lent(random: &mut Random, previous: &[u64], answer: &[u64], year: u64, quarte
 /// year. No amount is too large.
 fn after(random: &mut Random, before: u64, quarter: u64) -> Joining {
     let year = any_year(random);
-    let mut previous = [year, before, 0, 0, 0, 0];
-    let mut answer = [0, 0, 0, 0, spread(random, u64::MAX)];
+    let mut previous = [year, before, 0, 0, 0, 0, 0];
+    let mut answer = [0; ANSWER];
+    answer[MEAN] = spread(random, u64::MAX);
     // Right for the record's quarter, also were that cut to 32 bits.
     let quarters = u64::from(before as u32).min(4);
     previous[AMOUNTS + HOURS] = up_to(random, MOST_HOURS * quarters);
@@ -102,7 +107,7 @@ fn after(random: &mut Random, before: u64, quarter: u64) -> Joining {
     for sum in SUMS {
         let all = spread(random, MOST_SUM);
         let part = if quarters == 0 { 0 } else { up_to(random, all) };
-        (previous[AMOUNTS + sum], answer[sum]) = (part, all - part);
+        (previous[AMOUNTS + sum], answer[IN_ANSWER[sum]]) = (part, all - part);
     }
     lent(random, &previous, &answer, year, quarter)
 }
@@ -126,13 +131,13 @@ fn sound_in_turn(random: &mut Random, turn: usize) -> Joining {
     sound(random, in_turn(turn))
 }
 
-/// One sum, or all three, that the columns just hold or just do not, shared out
+/// One sum, or all of them, that the columns just hold or just do not, shared out
 /// in several ways.
 fn sum_at_limit(random: &mut Random, turn: usize) -> Joining {
-    let all = MOST_SUM + (turn / 4 % 2) as u64;
-    let way = turn / 8 % 4;
-    let mut joining = sound(random, if way == 0 { in_turn(turn / 32) } else { later_in_turn(turn / 32) });
-    let sums = if turn % 4 == 3 { &SUMS[..] } else { &SUMS[turn % 4..][..1] };
+    let all = MOST_SUM + (turn / 5 % 2) as u64;
+    let way = turn / 10 % 4;
+    let mut joining = sound(random, if way == 0 { in_turn(turn / 40) } else { later_in_turn(turn / 40) });
+    let sums = if turn % 5 == 4 { &SUMS[..] } else { &SUMS[turn % 5..][..1] };
     for &sum in sums {
         let part = [0, 1, all, up_to(random, all)][way];
         joining.set(sum, part, all - part);
@@ -179,7 +184,7 @@ fn faulty_and_over(random: &mut Random, turn: usize) -> Joining {
     for _ in 0..1 + random.below(2) {
         let sum = random.pick(&SUMS);
         if joining.previous[QUARTER] == 0 {
-            joining.answer[sum] = past(random);
+            joining.answer[IN_ANSWER[sum]] = past(random);
         } else {
             let kind = random.below(PARTS_OVER);
             let (previous, answer) = parts_over(random, kind);
@@ -246,16 +251,16 @@ fn not_of_a_new_year(random: &mut Random, turn: usize) -> Joining {
 /// in 64 bits.
 fn not_all_zeros(random: &mut Random, turn: usize) -> Joining {
     let mut joining = sound(random, 1);
-    let amount = turn % 4;
-    let value = match turn / 4 % 4 {
+    let (amount, way) = (turn % 5, turn / 5 % 4);
+    let value = match way {
         0 | 1 => 1,
         2 => 1 + spread(random, MOST_SUM / 4),
         // Nothing, were it cut to 32 bits.
         _ => 1 << 32,
     };
-    joining.set(amount, value, joining.answer[amount] / 2);
-    if turn / 4 % 4 == 1 {
-        joining.previous[AMOUNTS + (amount + 1) % 4] = u64::MAX;
+    joining.set(amount, value, joining.answer[IN_ANSWER[amount]] / 2);
+    if way == 1 {
+        joining.previous[AMOUNTS + (amount + 1) % 5] = u64::MAX;
     }
     joining
 }
@@ -289,9 +294,9 @@ fn too_many_hours_before(random: &mut Random, turn: usize) -> Joining {
 
 /// One sum that is too large, and no cause of 41.
 fn over(random: &mut Random, turn: usize) -> Joining {
-    let sum = SUMS[turn % 3];
-    let kind = turn / 3 % (PARTS_OVER + 1);
-    let turn = turn / 3 / (PARTS_OVER + 1);
+    let sum = SUMS[turn % 4];
+    let kind = turn / 4 % (PARTS_OVER + 1);
+    let turn = turn / 4 / (PARTS_OVER + 1);
     if kind == PARTS_OVER {
         return over_at_once(random, turn, sum);
     }
@@ -304,7 +309,7 @@ fn over(random: &mut Random, turn: usize) -> Joining {
 /// A first quarter with too large a sum, which is the answer's alone.
 fn over_at_once(random: &mut Random, turn: usize, sum: usize) -> Joining {
     let mut joining = sound(random, 1);
-    joining.answer[sum] = match turn % 4 {
+    joining.answer[IN_ANSWER[sum]] = match turn % 4 {
         0 => MOST_SUM + 1,
         1 => past(random),
         // The limit itself, were it cut to 32 bits.
@@ -435,11 +440,12 @@ fn in_a_row(random: &mut Random, turn: usize) -> Vec<Joining> {
     let first = any_year(random);
     // With a fourth of the limit or less, the sums of the year always fit.
     let most = MOST_SUM / random.pick(&[2, 3, 4, 4, 100]);
-    let mut held = vec![first, 0, 0, 0, 0, 0];
+    let mut held = vec![first, 0, 0, 0, 0, 0, 0];
     let mut joinings = Vec::new();
     for &(later, quarter) in row {
-        let amounts = [MOST_HOURS, most, most, most].map(|most| up_to(random, most));
-        let answer = [&amounts[..], &[spread(random, 99_999)]].concat();
+        let [hours, so2, co2, heat, tons] =
+            [MOST_HOURS, most, most, most, most].map(|most| up_to(random, most));
+        let answer = [hours, so2, co2, heat, spread(random, 99_999), tons];
         let joining = lent(random, &held, &answer, first.wrapping_add(later), quarter);
         if let (Outcome::Joined, record) = joining.outcome() {
             held = record[..RECORD].to_vec();

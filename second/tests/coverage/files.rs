@@ -67,8 +67,9 @@ pub fn operating_lines(lines: &[&[u8]], block: usize) -> Vec<usize> {
     (0..lines.len()).filter(|&index| operating(lines[index])).collect()
 }
 
-/// Readings and figures of the hours of a file whose lines are right.
-pub fn hours_of(file: &[u8]) -> Vec<(Readings, [u128; 4])> {
+/// Time, readings and figures of the operating hours of a file whose lines are
+/// right.
+pub fn hours_of(file: &[u8]) -> Vec<(u128, Readings, [u128; 4])> {
     let lines = lines_of(file);
     let ranked: Vec<Vec<usize>> = (0..HOURLY.len()).map(|block| operating_lines(&lines, block)).collect();
     let hour = |rank: usize| {
@@ -79,7 +80,7 @@ pub fn hours_of(file: &[u8]) -> Vec<(Readings, [u128; 4])> {
         };
         let [so2, nox, co2, flow] = [0, 1, 2, 3].map(|block| number(block, 0));
         let readings = Readings { so2, nox, co2, flow, fc: number(6, 0) };
-        (readings, [number(4, 1), number(5, 0), number(6, 1), number(7, 0)])
+        (number(4, 0), readings, [number(4, 1), number(5, 0), number(6, 1), number(7, 0)])
     };
     (0..ranked[0].len()).map(hour).collect()
 }

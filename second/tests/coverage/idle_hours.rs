@@ -61,7 +61,10 @@ fn times_and_dates_of_listed_hours() {
     let mut sorts = Sorts::new();
     for (file, number, line) in files() {
         let lines = lines_of(file);
-        let Some(&there) = lines.get(line.wrapping_sub(1)).filter(|line| is_listed(line)) else { continue };
+        let (Some(&there), true) = (lines.get(line.wrapping_sub(1)), line > 1) else { continue };
+        if !is_listed(there) {
+            continue;
+        }
         let (hours, heat) = (text(there, TIME.columns), text(there, HEAT.columns));
         let (date, before) = (text(there, DATE_300), lines[line - 2]);
         let date_before = text(before, DATE_300);
@@ -181,7 +184,7 @@ fn figures_and_totals_behind_idle_hours() {
             add(&mut times, number);
         }
     }
-    for number in (11..=14).chain(21..=24) {
+    for number in (11..=14).chain(21..=24).chain([48]) {
         assert!(times.get(&number).is_some_and(|&times| times >= 5), "{number} {times:?}");
     }
 }

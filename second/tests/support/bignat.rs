@@ -33,6 +33,18 @@ impl Big {
         Big(digits)
     }
 
+    pub fn plus(&self, other: &Big) -> Big {
+        let digit = |number: &Big, place: usize| u64::from(number.0.get(place).copied().unwrap_or(0));
+        let (mut digits, mut carry) = (Vec::new(), 0);
+        for place in 0..self.0.len().max(other.0.len()) {
+            let sum = digit(self, place) + digit(other, place) + carry;
+            digits.push(sum as u32);
+            carry = sum >> 32;
+        }
+        digits.extend((carry > 0).then_some(carry as u32));
+        Big(digits)
+    }
+
     pub fn times_small(&self, other: u128) -> Big {
         self.times(&Big::of(other))
     }
@@ -52,15 +64,17 @@ impl Ord for Big {
 }
 
 #[test]
-fn products_and_order() {
+fn products_sums_and_order() {
     let samples = [0, 1, 7, 0xFFFF_FFFF, 0x1_0000_0000, 0xFFFF_FFFF_FFFF_FFFFu128];
     for a in samples {
         for b in samples {
             assert_eq!(Big::of(a).times(&Big::of(b)), Big::of(a.wrapping_mul(b)));
             assert_eq!(Big::of(a).cmp(&Big::of(b)), a.cmp(&b));
+            assert_eq!(Big::of(a).plus(&Big::of(b)), Big::of(a + b));
         }
     }
     let large = Big::of(u128::MAX).times(&Big::of(u128::MAX));
     assert!(large > Big::of(u128::MAX));
+    assert_eq!(Big::of(u128::MAX).plus(&Big::of(u128::MAX)), Big::of(u128::MAX).times_small(2));
     assert!(large < Big::of(u128::MAX).times_small(u128::MAX).times_small(2));
 }

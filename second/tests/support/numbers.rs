@@ -1,8 +1,9 @@
 //! The numbers in columns of written reports: how small and how large each can
 //! be, and in which sizes a report has them.
 
-use second::figures::{Figure, Readings};
+use second::figures::{Figure, Readings, FIGURES};
 use second::generate::recorder::column_limits;
+use second::generate::tons::MOST_WRITTEN;
 use second::layout::{read_number, Columns, Record, Value, DATE_200, FLOW, QUARTER, YEAR};
 use second::layout::{R100, R200, R201, R202, R220, R300, R301, R310, R320, R330};
 use second::report::totals_of;
@@ -32,6 +33,7 @@ pub enum Name {
     Co2Total,
     HeatTotal,
     NoxMean,
+    NoxTons,
     So2Rate,
     Fc,
     NoxRate,
@@ -58,7 +60,7 @@ pub struct Number {
 /// taken, as a whole and in its parts.
 pub fn numbers() -> Vec<Number> {
     let figures = largest_figures();
-    let [so2, co2, heat, mean] = totals_of(repeat_n((100, &figures), MOST_HOURS));
+    let [so2, co2, heat, mean, _] = totals_of(repeat_n((100, &figures), MOST_HOURS));
     let part = |start| Columns(DATE_200.0 + start, 2);
     vec![
         Number::of_digits(Name::Year, R100, YEAR, (1995, 2094)),
@@ -78,6 +80,7 @@ pub fn numbers() -> Vec<Number> {
         Number::of_value(Name::Co2Total, R301, 1).up_to(co2),
         Number::of_value(Name::HeatTotal, R301, 2).up_to(heat),
         Number::of_value(Name::NoxMean, R301, 3).up_to(mean),
+        Number::of_value(Name::NoxTons, R301, 4).up_to(largest_tons()),
         Number::of_value(Name::So2Rate, R310, 0),
         Number::of_value(Name::Fc, R320, 0),
         Number::of_value(Name::NoxRate, R320, 1),
@@ -120,6 +123,13 @@ fn largest_co2(heat: u128) -> u128 {
         Figure::Co2.of_recorded(&Readings { co2, flow: fitting.min(flow), ..Readings::default() })
     };
     (1..=co2).map(figure).max().unwrap_or(0)
+}
+
+/// The most NOx tons. Not every hour's heat and NOx rate can be the largest.
+fn largest_tons() -> u128 {
+    let figures = FIGURES.map(|figure| figure.of_recorded(&MOST_WRITTEN));
+    let [.., tons] = totals_of(repeat_n((100, &figures), MOST_HOURS));
+    tons
 }
 
 fn digits(number: u128) -> u32 {

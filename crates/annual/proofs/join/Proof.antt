@@ -14,24 +14,27 @@ use Rattle.annual.proofs.join.Tie as tie
 abbrev start : tie.After-follows → tie.Start
 start c = c .before
 
-abbrev followed : tie.After-sum-fits3 → tie.Else1
-followed c = c .before .before .before
+abbrev followed : tie.After-sum-fits4 → tie.Else1
+followed c = c .before .before .before .before
 
 abbrev tried : tie.After-struct-known2 → tie.Else2
 tried c = c .before .before
 
-abbrev entry : (c : tie.After-sum-fits3) → tie.Start
+abbrev entry : (c : tie.After-sum-fits4) → tie.Start
 entry c = start (followed c .before)
 
-does-follow : (c : tie.After-sum-fits3) →
+does-follow : (c : tie.After-sum-fits4) →
     follows (entry c .args .previous) (entry c .args .year) (entry c .args .quarter) (entry c .args .answer) ≡ true
 does-follow c = let e = followed c in sym (e .before .follows .ensures) ∙ not-false _ (e .if1 .left)
 
-sums-told : (c : tie.After-sum-fits3) →
-    c .before .before .sum-fits .result && c .before .sum-fits2 .result && c .sum-fits3 .result ≡ sumsFit (entry c .args .previous) (entry c .args .answer)
+sums-told : (c : tie.After-sum-fits4) →
+    c .before .before .before .sum-fits .result && c .before .before .sum-fits2 .result && c .before .sum-fits3 .result && c .sum-fits4 .result
+    ≡ sumsFit (entry c .args .previous) (entry c .args .answer)
 sums-told c =
-    let d = c .before in
-    all-fit (entry c .args .previous) (entry c .args .answer) (d .before .sum-fits .ensures) (d .sum-fits2 .ensures) (c .sum-fits3 .ensures)
+    let heat = c .before in
+    let co2 = heat .before in
+    all-fit (entry c .args .previous) (entry c .args .answer)
+    (co2 .before .sum-fits .ensures) (co2 .sum-fits2 .ensures) (heat .sum-fits3 .ensures) (c .sum-fits4 .ensures)
 
 do-fit : (c : tie.Else2) → sumsFit (entry (c .before) .args .previous) (entry (c .before) .args .answer) ≡ true
 do-fit c = sym (sums-told (c .before)) ∙ not-false _ (c .if2 .left)
@@ -61,27 +64,33 @@ sum-fits-requires-2 c κs = search needs
 sum-fits-requires-3 : tie.Need-sum-fits-requires-3
 sum-fits-requires-3 c κs = search needs
 
+sum-fits-requires-4 : tie.Need-sum-fits-requires-4
+sum-fits-requires-4 c κs = search needs
+
 returns-2 : tie.Need-returns-2
 returns-2 c =
     let f = c .before in
     let a = entry f .args in
     sym (joined-42 (a .previous) (a .year) (a .quarter) (a .answer) (does-follow f) (sym (sums-told f) ∙ not-true _ (c .if2 .taken)))
 
-add-t11 : tie.Need-add-t11
-add-t11 c = let f = hours-known (tried c) in omega (arith, f .one-of-four .most, f .next, f .hours, f .hours-before)
-
-add-t12 : tie.Need-add-t12
-add-t12 c = omega (arith, sums-known (tried (c .before .before)) .so2)
-
 add-t13 : tie.Need-add-t13
-add-t13 c = omega (arith, sums-known (tried (c .before .before .before .before)) .co2)
+add-t13 c = let f = hours-known (tried c) in omega (arith, f .one-of-four .most, f .next, f .hours, f .hours-before)
 
 add-t14 : tie.Need-add-t14
-add-t14 c = omega (arith, sums-known (tried (c .before .before .before .before .before .before)) .heat)
+add-t14 c = omega (arith, sums-known (tried (c .before .before)) .so2)
+
+add-t15 : tie.Need-add-t15
+add-t15 c = omega (arith, sums-known (tried (c .before .before .before .before)) .co2)
+
+add-t16 : tie.Need-add-t16
+add-t16 c = omega (arith, sums-known (tried (c .before .before .before .before .before .before)) .heat)
+
+add-t17 : tie.Need-add-t17
+add-t17 c = omega (arith, sums-known (tried (c .before .before .before .before .before .before .before .before)) .nox-tons)
 
 returns-3 : tie.Need-returns-3
 returns-3 c =
-    let e = tried (c .before .before .before .before .before .before) in
+    let e = tried (c .before .before .before .before .before .before .before .before) in
     let a = entry (e .before) .args in
     sym (joined-record (a .previous) (a .year) (a .quarter) (a .answer) (does-follow (e .before)) (do-fit e))
 
@@ -94,9 +103,11 @@ join-spec =
     sum-fits-requires
     sum-fits-requires-2
     sum-fits-requires-3
+    sum-fits-requires-4
     returns-2
-    add-t11
-    add-t12
     add-t13
     add-t14
+    add-t15
+    add-t16
+    add-t17
     returns-3)

@@ -32,17 +32,22 @@ first-fault-requires-3 c κs = search needs
 first-fault-requires-4 : tie.Need-first-fault-requires-4
 first-fault-requires-4 c κs = search needs
 
+first-fault-requires-5 : tie.Need-first-fault-requires-5
+first-fault-requires-5 c κs = search needs
+
 returns : tie.Need-returns
 unfolding firstDiffering
 returns c =
-    let heat = c .before in
+    let nox = c .before in
+    let heat = nox .before in
     let co2 = heat .before in
     let so2 = co2 .before in
     let f = so2 .before .args .formed in
     let s = so2 .before .args .stated in
     let behind : ℕ → ℕ = λ n. firstDiffering (drop n statedTotals) f s in
-    alone (c .first-fault4 .result)
-    ∙ joined (heat .first-fault3 .result) _ (behind 4) (c .first-fault4 .ensures)
+    alone (c .first-fault5 .result)
+    ∙ joined (nox .first-fault4 .result) _ (behind 5) (c .first-fault5 .ensures)
+    ∙ joined (heat .first-fault3 .result) _ (behind 4) (nox .first-fault4 .ensures)
     ∙ joined (co2 .first-fault2 .result) _ (behind 3) (heat .first-fault3 .ensures)
     ∙ joined (so2 .first-fault .result) _ (behind 2) (co2 .first-fault2 .ensures)
     ∙ joined 0 _ (behind 1) (so2 .first-fault .ensures)
@@ -55,4 +60,5 @@ totals-fault-spec =
     first-fault-requires-2
     first-fault-requires-3
     first-fault-requires-4
+    first-fault-requires-5
     returns)

@@ -39,16 +39,19 @@ slice-write-answer-4 : tie.Need-slice-write-answer-4
 slice-write-answer-4 c = simp length-set (omega arith)
 
 slice-write-answer-5 : tie.Need-slice-write-answer-5
-slice-write-answer-5 c = search needs
-
-enum-known-refusal : tie.Need-enum-known-refusal
-enum-known-refusal c = search needs
+slice-write-answer-5 c = simp length-set (omega arith)
 
 slice-write-answer-6 : tie.Need-slice-write-answer-6
 slice-write-answer-6 c = search needs
 
+enum-known-refusal : tie.Need-enum-known-refusal
+enum-known-refusal c = search needs
+
 slice-write-answer-7 : tie.Need-slice-write-answer-7
-slice-write-answer-7 c = simp length-set (omega arith)
+slice-write-answer-7 c = search needs
+
+slice-write-answer-8 : tie.Need-slice-write-answer-8
+slice-write-answer-8 c = simp length-set (omega arith)
 
 same-length : tie.Need-same-length
 same-length c = search needs
@@ -80,9 +83,10 @@ edr-check-spec =
     slice-write-answer-3
     slice-write-answer-4
     slice-write-answer-5
-    enum-known-refusal
     slice-write-answer-6
+    enum-known-refusal
     slice-write-answer-7
+    slice-write-answer-8
     same-length
     returns-2
     same-length-2

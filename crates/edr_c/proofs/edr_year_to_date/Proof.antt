@@ -73,11 +73,14 @@ slice-write-record-5 c = simp length-set (omega (arith, long (tried (grown c)) .
 slice-write-record-6 : tie.Need-slice-write-record-6
 slice-write-record-6 c = simp length-set (omega (arith, long (tried (grown c)) .room))
 
+slice-write-record-7 : tie.Need-slice-write-record-7
+slice-write-record-7 c = simp length-set (omega (arith, long (tried (grown c)) .room))
+
 enum-known-number : tie.Need-enum-known-number
 enum-known-number c = search needs
 
-slice-write-record-7 : tie.Need-slice-write-record-7
-slice-write-record-7 c = omega (arith, long (tried (turned-down c)) .room)
+slice-write-record-8 : tie.Need-slice-write-record-8
+slice-write-record-8 c = omega (arith, long (tried (turned-down c)) .room)
 
 same-length : tie.Need-same-length
 same-length c = simp length-set
@@ -112,8 +115,9 @@ edr-year-to-date-spec =
     slice-write-record-4
     slice-write-record-5
     slice-write-record-6
-    enum-known-number
     slice-write-record-7
+    enum-known-number
+    slice-write-record-8
     same-length
     returns-2
     same-length-2

@@ -16,7 +16,10 @@ returns-3 : tie.Need-returns-3
 returns-3 c = nth QuarterTotals 2 refl (c .match .keys3)
 
 returns-4 : tie.Need-returns-4
-returns-4 c = last-value QuarterTotals 3 QuarterTotals (c .before .args .i) refl refl (c .before .pre) (omega arith)
+returns-4 c = nth QuarterTotals 3 refl (c .match .keys4)
+
+returns-5 : tie.Need-returns-5
+returns-5 c = last-value QuarterTotals 4 QuarterTotals (c .before .args .i) refl refl (c .before .pre) (omega arith)
 
 pub total-at-spec : {M : Type 1} → statement M
-total-at-spec = tie.close (tie.spec returns returns-2 returns-3 returns-4)
+total-at-spec = tie.close (tie.spec returns returns-2 returns-3 returns-4 returns-5)

@@ -31,15 +31,19 @@ value-in-requires-3 c κs = search needs
 value-in-requires-4 : tie.Need-value-in-requires-4
 value-in-requires-4 c κs = search needs
 
+value-in-requires-5 : tie.Need-value-in-requires-5
+value-in-requires-5 c κs = search needs
+
 returns : tie.Need-returns
 unfolding totalsIn
 returns c =
-    let heat = c .before in
+    let nox = c .before in
+    let heat = nox .before in
     let co2 = heat .before in
     let so2 = co2 .before in
     let x = so2 .before .before in
     rw (← hours-standing (x .args .file .now) (x .args .s) (x .pre), so2 .value-in .ensures ∙ total x 0, co2 .value-in2 .ensures ∙ total x 1)
-    (rw (heat .value-in3 .ensures ∙ total x 2, c .value-in4 .ensures ∙ total x 3))
+    (rw (heat .value-in3 .ensures ∙ total x 2, nox .value-in4 .ensures ∙ total x 3, c .value-in5 .ensures ∙ total x 4))
 
 pub totals-spec : {M : Type 1} → statement M
 totals-spec =
@@ -49,4 +53,5 @@ totals-spec =
     value-in-requires-2
     value-in-requires-3
     value-in-requires-4
+    value-in-requires-5
     returns)

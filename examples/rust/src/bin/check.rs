@@ -12,9 +12,9 @@ const HELP: &str = "\
 check FILE...
 Checks quarterly stack reports; - is standard input. For each it prints one of
 
-  accepted HOURS SO2 CO2 HEAT NOX   operating hours; SO2 tons, CO2 tons and heat input (mmBtu) in tenths;
-                                    mean NOx rate (lb/mmBtu) in thousandths
-  refused NUMBER LINE               the refusal and its line, 0 for the whole file; below it what that means
+  accepted HOURS SO2 CO2 HEAT RATE NOX   operating hours; SO2 tons, CO2 tons and heat input (mmBtu) in tenths;
+                                         mean NOx rate (lb/mmBtu) in thousandths; NOx tons in tenths
+  refused NUMBER LINE                    the refusal and its line, 0 for the whole file; below it what that means
 
 behind the file's name where there are several. The exit status is 0 if all are accepted, 1 if some are
 refused, 2 if a file cannot be read, an answer cannot be printed or the call is wrong.

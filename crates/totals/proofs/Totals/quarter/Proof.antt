@@ -21,6 +21,9 @@ so2 c = c .before
 abbrev co2 : tie.After-half-up3 → tie.After-half-up2
 co2 c = c .before
 
+abbrev heat : tie.After-mean → tie.After-half-up3
+heat c = c .before
+
 bound : (c : tie.After-sums) (i : ℕ) → getD (start c .args .self .sums) i 0 ≤ mostSum
 bound c i = sum-bound (start c .args .self) i (start c .pre)
 
@@ -48,11 +51,18 @@ array-read-mean c = search needs
 mean-requires : tie.Need-mean-requires
 mean-requires c κs = let r = read (so2 (co2 c)) in (bound r 3, start r .pre .hours)
 
+array-read-half-up-4 : tie.Need-array-read-half-up-4
+array-read-half-up-4 c = search needs
+
+half-up-requires-4 : tie.Need-half-up-requires-4
+half-up-requires-4 c κs = omega (arith, bound (read (so2 (co2 (heat c)))) 4)
+
 returns : tie.Need-returns
 returns c =
-    let h = c .before in
+    let m = c .before in
+    let h = heat m in
     let t = start (read (so2 (co2 h))) .args .self in
-    quarter-at t (so2 (co2 h) .half-up .ensures) (co2 h .half-up2 .ensures) (h .half-up3 .ensures) (c .mean .ensures)
+    quarter-at t (so2 (co2 h) .half-up .ensures) (co2 h .half-up2 .ensures) (h .half-up3 .ensures) (m .mean .ensures) (c .half-up4 .ensures)
 
 pub quarter-spec : {M : Type 1} → statement M
 quarter-spec =
@@ -66,4 +76,6 @@ quarter-spec =
     half-up-requires-3
     array-read-mean
     mean-requires
+    array-read-half-up-4
+    half-up-requires-4
     returns)

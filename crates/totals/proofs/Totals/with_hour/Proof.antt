@@ -54,6 +54,15 @@ array-read-t33 c = search needs
 add-t34 : tie.Need-add-t34
 add-t34 c = omega (arith, grows c 3)
 
+array-read-t37 : tie.Need-array-read-t37
+array-read-t37 c = search needs
+
+array-read-t40 : tie.Need-array-read-t40
+array-read-t40 c = search needs
+
+add-t41 : tie.Need-add-t41
+add-t41 c = omega (arith, grows c 4)
+
 add-self : tie.Need-add-self
 add-self c = search needs
 
@@ -82,5 +91,8 @@ with-hour-spec =
     array-read-t30
     array-read-t33
     add-t34
+    array-read-t37
+    array-read-t40
+    add-t41
     add-self
     returns)
