@@ -24,7 +24,8 @@ use Rattle.totals.specs.declared.Quarter.{Quarter}
 use Rattle.layout.specs.declared.RecordType.{RecordType}
 use Rattle.layout.specs.declared.RecordType.the-variants.{Facility, So2Concentration, Operation, QuarterTotals}
 use Rattle.lines.specs.LineFaults.{commonFault, valuesFault, digitsIn, facilityFault, facilityLine}
-use Rattle.lines.specs.LineFaults.{risingFault, hourOn, datedFault, hourFault, hourNumber, hourLine, dueOf, dateFault, dueFault, operates, operationLine}
+use Rattle.lines.specs.LineFaults.{risingFault, hourOn, datedFault, hourFault, hourNumber, hourLine, dueOf, dateFault, dueFault, operates, operationLine, dateOn}
+use Rattle.lines.specs.FaultLaws.{DueRight}
 use Rattle.lines.specs.OperationLaws.{operation-said, due-operates, due-operation}
 use Rattle.lines.specs.declared.Period.{Period}
 use Rattle.lines.specs.declared.FacilityLine.the-variants.{Of}
@@ -152,9 +153,14 @@ module _ (year quarter : ℕ) (name : List ℕ) (g : Heading year quarter name) 
           go zero k e = absurd (omega arith)
           go (suc c) k e = rw (same-eq (columns (suc c) dateWidth line) (stampOf year quarter (h .hour)) .1 e)
 
-      pub hour-due : dueFault facility (dueOf t (stampOf year quarter (h .hour))) line ≡ 0
-      unfolding dueFault
-      hour-due = rw (hour-common, date-right, hour-values)
+  -- by the 200 line of its hour
+  module _ (t : RecordType) (dated : 1 ≤ dateColumn t) (h : ReportHour) (a : ValuesWithin (valuesOf t) (hourValues t (h .recorded))) where
+    pub hour-due : DueRight facility (dueOf t (hourRecord year quarter name So2Concentration h)) (hourRecord year quarter name t h)
+    hour-due = record {
+      common = hour-common t dated h;
+      date = rw (hour-date So2Concentration (omega arith) h) (date-right t dated h a);
+      values = hour-values t dated h a;
+    }
 
   -- the 200 line and the 300 line of an hour that may follow
   module _ (h : ReportHour) (b : h .hour < hoursInQuarter year quarter) where
@@ -178,16 +184,19 @@ module _ (year quarter : ℕ) (name : List ℕ) (g : Heading year quarter name) 
     module _ (a : ValuesWithin (valuesOf Operation) (hourValues Operation (h .recorded))) where
       pub hour-operates : operates (hourRecord year quarter name Operation h) ≡ true
       hour-operates =
-          due-operates facility period 0 (stampOf year quarter (h .hour)) (hourRecord year quarter name Operation h) (hour-due Operation (omega arith) h a)
+          due-operates facility period 0 (hourRecord year quarter name So2Concentration h) (hourRecord year quarter name Operation h)
+          (hour-due Operation (omega arith) h a)
 
       pub operation-named : (from : ℕ) → from ≤ h .hour →
-          operationLine facility period from (stampOf year quarter (h .hour)) (hourRecord year quarter name Operation h) ≡ Operating (h .hour)
+          operationLine facility period from (dateOn So2Concentration (hourRecord year quarter name So2Concentration h))
+          (hourRecord year quarter name Operation h)
+          ≡ Operating (h .hour)
       unfolding hourNumber
       operation-named from f =
           let l = hourRecord year quarter name Operation h in
-          let d = stampOf year quarter (h .hour) in
-          operation-said facility period from d l
-          (due-operation facility period from d l (hour-due Operation (omega arith) h a) (hour-rises Operation (omega arith) from f))
+          let hour = hourRecord year quarter name So2Concentration h in
+          operation-said facility period from (dateOn So2Concentration hour) l
+          (due-operation facility period from hour l (hour-due Operation (omega arith) h a) (hour-rises Operation (omega arith) from f))
           ∙ rw (hour-operates) (ap (λ x. Operating (hourNumber x)) (named-hour Operation (omega arith)))
 
   module _ (q : Quarter) where

@@ -24,14 +24,13 @@ use Rattle.layout.specs.declared.Shape.{Shape}
 use Rattle.layout.specs.declared.Run.{Run}
 use Rattle.layout.specs.declared.Run.the-variants.{Once, Hourly, Listed}
 use Rattle.formulas.specs.Hour.{HourWithin, HoursWithin}
-use Rattle.stamp.specs.Stamp.{stampOf}
 use Rattle.totals.specs.Totals.{quarterTotals}
 use Rattle.totals.specs.FitLaws.{totals-fit}
 use Rattle.totals.specs.declared.Quarter.{Quarter}
 use Rattle.lines.specs.Lines.{onto, lines, last}
-use Rattle.lines.specs.LineFaults.{typeIs, dateOn, Due, dueOf, dueFault}
-use Rattle.lines.specs.FaultLaws.{type-same}
-use Rattle.reading.specs.Reading.{firstTypes, lastTypes, datesOf, runOf, runsOf, After, endOperations, walkOperations, walkEnd, walkLast}
+use Rattle.lines.specs.LineFaults.{typeIs, Due, dueOf, dueFault}
+use Rattle.lines.specs.FaultLaws.{type-same, right-due}
+use Rattle.reading.specs.Reading.{firstTypes, lastTypes, hoursDue, runOf, runsOf, After, endOperations, walkOperations, walkEnd, walkLast}
 use Rattle.reading.specs.Reading.{walkListed, walkLater, walkHours, walk, readOf}
 use Rattle.reading.specs.CleanLaws.{Matches, ended-walked, matches-walked}
 use Rattle.reading.specs.declared.Report.{Report}
@@ -43,7 +42,7 @@ use Rattle.writer.specs.Written.{hourRecord, onceRecord, runRecords, writtenRec
 use Rattle.writer.specs.ReportLaws.{records-each, records-printable}
 use Rattle.agreement.specs.Reportable.{AllWritable, Rising}
 use Rattle.agreement.specs.RecordLaws.{framed-type, ValuesWithin}
-use Rattle.agreement.specs.HourRecordLaws.{facility, period, facility-framed, facility-named, hour-framed, hour-date, hour-due, hour-named, operation-named}
+use Rattle.agreement.specs.HourRecordLaws.{facility, period, facility-framed, facility-named, hour-framed, hour-due, hour-named, operation-named}
 use Rattle.agreement.specs.HourRecordLaws.{totals-framed, totals-due}
 
 -- a line of printable bytes and its byte 10 are the first line of what follows
@@ -174,20 +173,22 @@ module _ (year quarter : ℕ) (name : List ℕ) (g : Heading year quarter name) 
 
   -- the lines of the later types are those that are due
 
-  abbrev stamps : List ReportHour → List (List ℕ)
-  stamps xs = map (λ h. stampOf year quarter (h .hour)) xs
+  abbrev hourLines : List ReportHour → List (List ℕ)
+  hourLines xs = map (hourRecord year quarter name So2Concentration) xs
 
   first : List ℕ
   first = facility year quarter name g named
 
   hours-due : (t : RecordType) → 1 ≤ dateColumn t → (xs : List ReportHour) (rest : List (List ℕ)) → AllWritable year quarter xs →
-      Matches first (map (dueOf t) (stamps xs)) (map (hourRecord year quarter name t) xs ++ rest) rest
+      Matches first (map (dueOf t) (hourLines xs)) (map (hourRecord year quarter name t) xs ++ rest) rest
   unfolding first
   hours-due t d [] rest a = refl
-  hours-due t d (x ∷ xs) rest a = (hour-due year quarter name g named t d x (hour-values-within t x d (a .0 .within)), hours-due t d xs rest (a .1))
+  hours-due t d (x ∷ xs) rest a =
+      (right-due _ _ _ (hour-due year quarter name g named t d x (hour-values-within t x d (a .0 .within))), hours-due t d xs rest (a .1))
 
   module _ (a : AllWritable year quarter hs) (few : length hs ≤ mostHours) where
-    type-due : (t : RecordType) (rest : List (List ℕ)) → eqb (codeOf t) (codeOf Facility) ≡ false → Matches first (runOf t (stamps hs)) (records t ++ rest) rest
+    type-due : (t : RecordType) (rest : List (List ℕ)) → eqb (codeOf t) (codeOf Facility) ≡ false →
+        Matches first (runOf t (hourLines hs)) (records t ++ rest) rest
     unfolding runOf writtenRecords first
     type-due t rest n = go (recordOf t .run) refl
       where
@@ -196,20 +197,20 @@ module _ (year quarter : ℕ) (name : List ℕ) (g : Heading year quarter name) 
         one (inr e) = rw e (totals-due year quarter name g named (formed hs) (totals-within year quarter hs a few))
 
         go : (run : Run) → recordOf t .run ≡ run →
-            Matches first (map (dueOf t) (datesOf run (stamps hs)))
+            Matches first (map (dueOf t) (hoursDue run (hourLines hs)))
             (runRecords run (onceRecord year quarter name hs t) (map (hourRecord year quarter name t) hs) ++ rest) rest
         go Once e = (one (once-type t e), refl)
         go Hourly e = hours-due t (hourly-dated t e) hs rest a
         go Listed e = hours-due t (listed-dated t e) hs rest a
 
     types-due : (ts : List RecordType) (rest : List (List ℕ)) → absent (codeOf Facility) ts ≡ true →
-        Matches first (runsOf ts (stamps hs)) (recordsIn ts ++ rest) rest
+        Matches first (runsOf ts (hourLines hs)) (recordsIn ts ++ rest) rest
     unfolding runsOf
     types-due [] rest n = refl
     types-due (t ∷ ts) rest n =
         let b = both (not (eqb (codeOf t) (codeOf Facility))) (absent (codeOf Facility) ts) n in
         rw (append-assoc (records t) (recordsIn ts) rest)
-        (append-matches first (runOf t (stamps hs)) (runsOf ts (stamps hs)) (records t ++ (recordsIn ts ++ rest)) (recordsIn ts ++ rest) rest
+        (append-matches first (runOf t (hourLines hs)) (runsOf ts (hourLines hs)) (records t ++ (recordsIn ts ++ rest)) (recordsIn ts ++ rest) rest
         (type-due t (recordsIn ts ++ rest) (not-true _ (b .0))) (types-due ts rest (b .1)))
 
   -- the first of some lines is of another type
@@ -228,36 +229,33 @@ module _ (year quarter : ℕ) (name : List ℕ) (g : Heading year quarter name) 
       go [] e f o = o
       go (r ∷ rs) e f o = type-same t u r (e .0) ∙ f
 
-  stops : (line from : ℕ) (dates later : List (List ℕ)) → Other So2Concentration later →
-      walkHours first (period year quarter name g named) line from dates later ≡ walkLater first (period year quarter name g named) line dates later
+  stops : (line from : ℕ) (before later : List (List ℕ)) → Other So2Concentration later →
+      walkHours first (period year quarter name g named) line from before later ≡ walkLater first (period year quarter name g named) line before later
   unfolding walkHours
-  stops line from dates [] o = refl
-  stops line from dates (l ∷ ls) o = rw (o, walkHours)
+  stops line from before [] o = refl
+  stops line from before (l ∷ ls) o = rw (o, walkHours)
 
   -- the 200 lines, one after the other
-  hours-walked : (xs : List ReportHour) (line from : ℕ) (dates later : List (List ℕ)) → AllWritable year quarter xs →
+  hours-walked : (xs : List ReportHour) (line from : ℕ) (before later : List (List ℕ)) → AllWritable year quarter xs →
       Rising from xs → Other So2Concentration later →
-      walkHours first (period year quarter name g named) line from dates (map (hourRecord year quarter name So2Concentration) xs ++ later)
-      ≡ walkLater first (period year quarter name g named) (line + length xs) (dates ++ stamps xs) later
+      walkHours first (period year quarter name g named) line from before (hourLines xs ++ later)
+      ≡ walkLater first (period year quarter name g named) (line + length xs) (before ++ hourLines xs) later
   unfolding walkHours first
-  hours-walked [] line from dates later a r o =
+  hours-walked [] line from before later a r o =
       let e : line + 0 ≡ line = omega arith in
-      rw (e, append-nil dates) (stops line from dates later o)
-  hours-walked (x ∷ xs) line from dates later a r o =
+      rw (e, append-nil before) (stops line from before later o)
+  hours-walked (x ∷ xs) line from before later a r o =
       let l = hourRecord year quarter name So2Concentration x in
       let w = hour-values-within So2Concentration x (omega arith) (a .0 .within) in
       let e : line + 1 + length xs ≡ line + suc (length xs) = omega arith in
-      let d : dates ++ (dateOn So2Concentration l ∷ []) ++ stamps xs ≡ dates ++ (stampOf year quarter (x .hour) ∷ stamps xs) =
-      append-assoc dates (dateOn So2Concentration l ∷ []) (stamps xs)
-      ∙ ap (λ (s : List ℕ). dates ++ (s ∷ stamps xs)) (hour-date year quarter name g named So2Concentration (omega arith) x) in
       rw (
         framed-type So2Concentration name l (hour-framed year quarter name g named So2Concentration (omega arith) x),
         walkHours,
         hour-named year quarter name g named x (a .0 .exists) w from (r .0),
         add-one (x .hour),
       )
-      (hours-walked xs (line + 1) (suc (x .hour)) (dates ++ (dateOn So2Concentration l ∷ [])) later (a .1) (r .1) o
-      ∙ ap₂ (λ (n : ℕ) (s : List (List ℕ)). walkLater first (period year quarter name g named) n s later) e d)
+      (hours-walked xs (line + 1) (suc (x .hour)) (before ++ (l ∷ [])) later (a .1) (r .1) o
+      ∙ ap₂ (λ (n : ℕ) (s : List (List ℕ)). walkLater first (period year quarter name g named) n s later) e (append-assoc before (l ∷ []) (hourLines xs)))
 
   -- the 300 lines, one after the other: none is idle
   operations-over : (line from : ℕ) (later : List (List ℕ)) (after : After) → Other Operation later →
@@ -268,7 +266,7 @@ module _ (year quarter : ℕ) (name : List ℕ) (g : Heading year quarter name) 
 
   operations-walked : (xs : List ReportHour) (line from : ℕ) (later : List (List ℕ)) (after : After) → AllWritable year quarter xs →
       Rising from xs → Other Operation later →
-      walkOperations first (period year quarter name g named) line from (stamps xs) (map (hourRecord year quarter name Operation) xs ++ later) after
+      walkOperations first (period year quarter name g named) line from (hourLines xs) (map (hourRecord year quarter name Operation) xs ++ later) after
       ≡ after (line + length xs) later
   unfolding walkOperations first
   operations-walked [] line from later after a r o =
@@ -295,31 +293,31 @@ module _ (year quarter : ℕ) (name : List ℕ) (g : Heading year quarter name) 
     unfolding walk first
     walk-first ls = rw (facility-named year quarter name g named, walk)
 
-    stamps-length : length (stamps hs) ≡ length hs
-    stamps-length = length-map hs (λ h. stampOf year quarter (h .hour))
+    lines-length : length (hourLines hs) ≡ length hs
+    lines-length = length-map hs (hourRecord year quarter name So2Concentration)
 
     -- behind the 300 lines, behind the 220 lines and behind the 200 lines
-    last-clean : (s : Shape) (line : ℕ) → walkLast first (period year quarter name g named) s line (stamps hs) (recordsIn lastTypes)
+    last-clean : (s : Shape) (line : ℕ) → walkLast first (period year quarter name g named) s line (hourLines hs) (recordsIn lastTypes)
         ≡ Clean (record { period = period year quarter name g named; shape = s })
     unfolding walkLast walkEnd
     last-clean s line =
-        ap (λ (ls : List (List ℕ)). walkLast first (period year quarter name g named) s line (stamps hs) ls) (sym (append-nil (recordsIn lastTypes)))
-        ∙ matches-walked first line (runsOf lastTypes (stamps hs)) (recordsIn lastTypes ++ []) [] _ (types-due a few lastTypes [] refl)
+        ap (λ (ls : List (List ℕ)). walkLast first (period year quarter name g named) s line (hourLines hs) ls) (sym (append-nil (recordsIn lastTypes)))
+        ∙ matches-walked first line (runsOf lastTypes (hourLines hs)) (recordsIn lastTypes ++ []) [] _ (types-due a few lastTypes [] refl)
 
-    listed-clean : (line : ℕ) → walkListed first (period year quarter name g named) line (stamps hs) (records Operation ++ recordsIn lastTypes) ≡ Clean own
+    listed-clean : (line : ℕ) → walkListed first (period year quarter name g named) line (hourLines hs) (records Operation ++ recordsIn lastTypes) ≡ Clean own
     unfolding walkListed writtenRecords
     listed-clean line =
         let z : line + length hs - line ≡ length hs = omega arith in
         operations-walked hs line 0 (recordsIn lastTypes) _ a r (later-other Operation lastTypes refl)
         ∙ last-clean _ (line + length hs)
-        ∙ ap₂ (λ (n m : ℕ). Clean (record { period = period year quarter name g named; shape = shapeWith n m })) stamps-length z
+        ∙ ap₂ (λ (n m : ℕ). Clean (record { period = period year quarter name g named; shape = shapeWith n m })) lines-length z
 
-    later-clean : (line : ℕ) → walkLater first (period year quarter name g named) line (stamps hs) (recordsIn (later So2Concentration)) ≡ Clean own
+    later-clean : (line : ℕ) → walkLater first (period year quarter name g named) line (hourLines hs) (recordsIn (later So2Concentration)) ≡ Clean own
     unfolding walkLater
     later-clean line =
-        ap (λ (ls : List (List ℕ)). walkLater first (period year quarter name g named) line (stamps hs) ls) split
-        ∙ matches-walked first line (runsOf firstTypes (stamps hs)) (recordsIn firstTypes ++ behind) behind _ (types-due a few firstTypes behind refl)
-        ∙ listed-clean (line + length (runsOf firstTypes (stamps hs)))
+        ap (λ (ls : List (List ℕ)). walkLater first (period year quarter name g named) line (hourLines hs) ls) split
+        ∙ matches-walked first line (runsOf firstTypes (hourLines hs)) (recordsIn firstTypes ++ behind) behind _ (types-due a few firstTypes behind refl)
+        ∙ listed-clean (line + length (runsOf firstTypes (hourLines hs)))
       where
         behind : List (List ℕ)
         behind = records Operation ++ recordsIn lastTypes

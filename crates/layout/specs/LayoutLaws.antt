@@ -12,8 +12,8 @@ use borrow.Author.Tests.{leb-true, le-leb, eqb-true, eq-eqb}
 use Rattle.calendar.specs.Calendar.{mostHours}
 use Rattle.exact.specs.Logic.{both}
 use Rattle.exact.specs.Sums.{totalOf}
-use Rattle.layout.specs.Layout.{lengthOf, dateColumn, dateWidth, valueCount, mostValues, linesOf, recordOf}
-use Rattle.layout.specs.Layout.{countOf, order, rankOf, typeAt, reportLength, Held, Between, Within, inRange, wholeSteps, within, flowScfh, thousandsOf, scfhOf}
+use Rattle.layout.specs.Layout.{lengthOf, dateColumn, dateWidth, valueCount, mostValues, linesOf, recordOf, countOf, shape, order, rankOf, typeAt}
+use Rattle.layout.specs.Layout.{reportLength, Held, Between, Within, inRange, wholeSteps, within, flowScfh, thousandsOf, scfhOf}
 use Rattle.layout.specs.declared.RecordType.{RecordType}
 use Rattle.layout.specs.declared.RecordType.the-variants.{Facility, So2Concentration, NoxConcentration, Co2Concentration, VolumetricFlow}
 use Rattle.layout.specs.declared.RecordType.the-variants.{Operation, QuarterTotals, So2Mass, NoxRate, Co2Mass}
@@ -71,6 +71,10 @@ date-inside t h =
 -- they do so where a record has none, too: then they would start the line
 pub date-fits : (t : RecordType) → dateColumn t - 1 + dateWidth ≤ lengthOf t
 date-fits t = each-le (λ t. dateColumn t - 1 + dateWidth) (λ t. lengthOf t) refl t
+
+-- a record that stands once has none
+pub once-undated : (t : RecordType) → recordOf t .run ≡ Once → dateColumn t ≡ 0
+once-undated t e = let z = each-le (λ t. dateColumn t * linesOf (recordOf t .run) (shape 0)) (λ t. 0) refl t in omega (arith, rw e at z)
 
 pub count-most : (s : Shape) → Held s → (t : RecordType) → countOf s t ≤ mostHours
 count-most s h t = go (recordOf t .run)

@@ -36,6 +36,11 @@ pub const SO2_BYTES: usize = SO2_LENGTH + 1;
 
 pub const SO2_DATE: usize = 16;
 
+// That date and hour, in bytes of the line.
+pub const HOUR_FROM: usize = SO2_DATE - 1;
+
+pub const HOUR_TO: usize = HOUR_FROM + DATE_WIDTH;
+
 // A 300 line: likewise.
 pub const OPERATION_LENGTH: usize = 42;
 

@@ -155,14 +155,26 @@ hour-said facility period from line hour e = go (hourFault facility period from 
     go zero k w = (k, cc)
     go (suc c) k w = absurd (let z : _≡_ {A = ℕ} 0 1 = cc in omega arith)
 
-module _ (facility : List ℕ) (d : Due) (line : List ℕ) (e : dueFault facility d line ≡ 0) where
-  pub due-shape : shapeFault (d .type) line ≡ 0
-  unfolding dueFault
-  due-shape = common-shape facility (d .type) line (or-zero (commonFault facility (d .type) line) _ e .0)
+-- a line that is due, part by part
+pub record DueRight (facility : List ℕ) (d : Due) (line : List ℕ) : Type 0 where
+  pub common : commonFault facility (d .type) line ≡ 0
+  pub date : dateFault (dateColumn (d .type)) (dateOn So2Concentration (d .hour)) line ≡ 0
+  pub values : valuesFault (valuesOf (d .type)) line ≡ 0
 
-  pub due-values : valuesFault (valuesOf (d .type)) line ≡ 0
+module _ (facility : List ℕ) (d : Due) (line : List ℕ) where
+  pub due-right : dueFault facility d line ≡ 0 → DueRight facility d line
   unfolding dueFault
-  due-values = or-zero (dateFault (dateColumn (d .type)) (d .date) line) _ (or-zero (commonFault facility (d .type) line) _ e .1) .1
+  due-right e =
+      let a = or-zero (commonFault facility (d .type) line) _ e in
+      let b = or-zero (dateFault (dateColumn (d .type)) (dateOn So2Concentration (d .hour)) line) _ (a .1) in
+      record { common = a .0; date = b .0; values = b .1 }
+
+  pub right-due : DueRight facility d line → dueFault facility d line ≡ 0
+  unfolding dueFault
+  right-due r = rw (r .common, r .date, r .values)
+
+  pub due-shape : dueFault facility d line ≡ 0 → shapeFault (d .type) line ≡ 0
+  due-shape e = common-shape facility (d .type) line (due-right e .common)
 
 -- columns of a line are columns of the file
 take-drop-take : (w a m : ℕ) (l : List ℕ) → a + w ≤ m → take w (drop a (take m l)) ≡ take w (drop a l)

@@ -116,13 +116,13 @@ unfoldable pub hourLine : List ℕ → Period → ℕ → List ℕ → HourLine
 hourLine facility period from line =
     elim (hourFault facility period from line) [ zero ↦ OfHour (hourIn period So2Concentration line) | suc c ↦ FaultyHour (suc c) ]
 
--- a line that is due: its type, and the date and hour that it must have where its type has one
+-- a line that is due: its type, and the 200 line of its rank, by which it is judged; no line where its type has no date
 pub record Due : Type 0 where
   pub type : RecordType
-  pub date : List ℕ
+  pub hour : List ℕ
 
 abbrev pub dueOf : RecordType → List ℕ → Due
-dueOf t date = record { type = t; date = date }
+dueOf t hour = record { type = t; hour = hour }
 
 -- 7: date and hour of the other dated lines
 
@@ -133,7 +133,7 @@ dateFault (suc c) date line = unless (same (columns (suc c) dateWidth line) date
 unfoldable pub dueFault : List ℕ → Due → List ℕ → ℕ
 dueFault facility due line =
     commonFault facility (due .type) line
-    orElse dateFault (dateColumn (due .type)) (due .date) line
+    orElse dateFault (dateColumn (due .type)) (dateOn So2Concentration (due .hour)) line
     orElse valuesFault (valuesOf (due .type)) line
 
 -- a 300 line: behind its hour, its time; then, where the hour operates, date and heat; where it is idle, 47 unless the heat columns are blank

@@ -15,11 +15,11 @@ use Rattle.columns.specs.Number.{numberOf}
 use Rattle.columns.specs.declared.Field.{Field}
 use Rattle.columns.specs.declared.Field.the-variants.{Blank, Malformed, Number}
 use Rattle.layout.specs.Layout.{dateColumn, dateWidth, valuesOf, timeHours, listedTime, heatRate}
-use Rattle.layout.specs.declared.RecordType.the-variants.{Operation}
-use Rattle.lines.specs.LineFaults.{shapeFault, commonFault, fieldFault, fieldIn, valuesFault, dateOn, risingFault, hourOn, datedFault, hourIn}
-use Rattle.lines.specs.LineFaults.{dateFault, dueOf, dueFault}
+use Rattle.layout.specs.declared.RecordType.the-variants.{So2Concentration, Operation}
+use Rattle.lines.specs.LineFaults.{shapeFault, fieldFault, fieldIn, valuesFault, dateOn, risingFault, hourOn, datedFault, hourIn}
+use Rattle.lines.specs.LineFaults.{dateFault, dueOf}
 use Rattle.lines.specs.LineFaults.{timeIn, operates, idleFault, operatingFault, timedFault, operationFault, saidOf, operationLine}
-use Rattle.lines.specs.FaultLaws.{shape-length, field-within, field-right, dated-shape, dated-earlier}
+use Rattle.lines.specs.FaultLaws.{shape-length, field-within, field-right, dated-shape, dated-earlier, DueRight}
 use Rattle.lines.specs.declared.Period.{Period}
 use Rattle.lines.specs.declared.operation.OperationLine.the-variants.{Operating, Idle}
 
@@ -115,18 +115,11 @@ module _ (facility : List ℕ) (period : Period) (from : ℕ) (date line : List 
   operation-said e = ap (λ (f : ℕ). saidOf f (cond (operates line) (Operating hour) (Idle hour))) e
 
 -- a line of an operating hour, from what a line is tried for that is due
-module _ (facility : List ℕ) (period : Period) (from : ℕ) (date line : List ℕ) (e : dueFault facility (dueOf Operation date) line ≡ 0) where
-  due-parts : (commonFault facility Operation line ≡ 0) × (dateFault (dateColumn Operation) date line ≡ 0) × (valuesFault (valuesOf Operation) line ≡ 0)
-  unfolding dueFault
-  due-parts =
-      let a = or-zero (commonFault facility Operation line) _ e in
-      let b = or-zero (dateFault (dateColumn Operation) date line) _ (a .1) in
-      (a .0, b .0, b .1)
-
+module _ (facility : List ℕ) (period : Period) (from : ℕ) (hour line : List ℕ) (due : DueRight facility (dueOf Operation hour) line) where
   value-parts : (fieldFault timeHours (timeIn line) ≡ 0) × (fieldFault heatRate (fieldIn heatRate line) ≡ 0)
   unfolding valuesFault
   value-parts =
-      let a = or-zero (fieldFault timeHours (timeIn line)) _ (due-parts .2) in
+      let a = or-zero (fieldFault timeHours (timeIn line)) _ (due .values) in
       (a .0, or-zero (fieldFault heatRate (fieldIn heatRate line)) _ (a .1) .0)
 
   time-listed : (f : Field) → fieldFault timeHours f ≡ 0 → (fieldFault listedTime f ≡ 0) × (ltb 0 (numberOf f) ≡ true)
@@ -141,6 +134,6 @@ module _ (facility : List ℕ) (period : Period) (from : ℕ) (date line : List 
   unfolding operates
   due-operates = time-listed (timeIn line) (value-parts .0) .1
 
-  pub due-operation : risingFault from (hourOn period Operation line) ≡ 0 → operationFault facility period from date line ≡ 0
+  pub due-operation : risingFault from (hourOn period Operation line) ≡ 0 → operationFault facility period from (dateOn So2Concentration hour) line ≡ 0
   unfolding operationFault datedFault timedFault operatingFault
-  due-operation r = rw (due-parts .0, r, time-listed (timeIn line) (value-parts .0) .0, due-operates, due-parts .1, value-parts .1)
+  due-operation r = rw (due .common, r, time-listed (timeIn line) (value-parts .0) .0, due-operates, due .date, value-parts .1)

@@ -26,7 +26,7 @@ use Rattle.layout.specs.declared.RecordType.the-variants.{Facility, So2Concentr
 use Rattle.layout.specs.declared.values.Value.{Value}
 use Rattle.exact.specs.Faults.{_orElse_, unless}
 use Rattle.lines.specs.LineFaults.{typeIs, shapeFault, stackOf, stackFault, commonFault, fieldFault, fieldIn, valuesFault, digitsIn}
-use Rattle.lines.specs.LineFaults.{periodOn, facilityFault, facilityLine, risingFault, hourOn, datedFault, hourFault, hourIn, hourLine}
+use Rattle.lines.specs.LineFaults.{periodOn, facilityFault, facilityLine, risingFault, dateOn, hourOn, datedFault, hourFault, hourIn, hourLine}
 use Rattle.lines.specs.LineFaults.{Due, dateFault, dueFault, timeIn, operates, idleFault, operatingFault, timedFault, operationFault, saidOf, operationLine}
 use Rattle.lines.specs.FaultLaws.{shape-type, common-shape, dated-shape}
 use Rattle.lines.specs.Shows.{Shows, Rises, ofLineChecks}
@@ -140,8 +140,8 @@ module _ (facility line : List ℕ) where
   due-shown d other =
       or-shown Here (commonFault facility (d .type) line) _ (common-shown (d .type)) (λ z.
       let type = shape-type (d .type) line (common-shape facility (d .type) line z) in
-      or-shown Here (dateFault (dateColumn (d .type)) (d .date) line) _
-      (date-shown (d .type) type (λ e. absurd (other e)) (d .date) (dateColumn (d .type)) refl) (λ y.
+      let date = dateOn So2Concentration (d .hour) in
+      or-shown Here (dateFault (dateColumn (d .type)) date line) _ (date-shown (d .type) type (λ e. absurd (other e)) date (dateColumn (d .type)) refl) (λ y.
       fields-shown (d .type) type other))
 
   rising-shown : (t : RecordType) → Rises t → typeIs t line ≡ true → (from : ℕ) (h : QuarterHour) → hourOn (periodOn facility) t line ≡ h →

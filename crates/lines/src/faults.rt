@@ -11,7 +11,7 @@ ghost use Rattle.columns.specs.Columns.{Inside};
 ghost use Rattle.layout.specs.Layout.{lengthOf, valuesOf, dateWidth};
 ghost use Rattle.layout.specs.ValueLaws.{ValueInside};
 ghost use Rattle.lines.specs.Lines.{firstLine};
-ghost use Rattle.lines.specs.LineFaults.{stackFault, commonFault, digitsIn, fieldFault, fieldIn, valuesFault, dateFault};
+ghost use Rattle.lines.specs.LineFaults.{stackFault, commonFault, digitsIn, fieldFault, fieldIn, valuesFault, dateOn, dateFault};
 
 // The stack name, in bytes of a line.
 pub const STACK_FROM: usize = layout::STACK_START - 1;
@@ -94,17 +94,25 @@ pub fn values_fault(line: &[u8], t: RecordType) -> u64
     0
 }
 
-// 7: a date and hour that must be `date`, from its column on; a type without one has column 0.
+// 7: a date and hour that must be `date`, from its column on.
 pub fn date_fault(line: &[u8], date: &[u8], column: usize) -> u64
-    requires { ⌜ column - 1 + dateWidth ≤ length (now line) ⌝ }
+    requires { ⌜ (1 ≤ column) × (column - 1 + dateWidth ≤ length (now line)) ⌝ }
     ensures { λ r. ⌜ r ≡ dateFault column (now (date .entry)) (now (line .entry)) ⌝ }
 {
-    if column == 0 {
-        return 0;
-    }
     let from = column - 1;
     if columns::same_bytes(&line[from..from + layout::DATE_WIDTH], date) {
         return 0;
     }
     7
+}
+
+// 7: a date and hour that must be those of the 200 line `hour`; a type without one has column 0.
+pub fn ranked_date_fault(line: &[u8], hour: &[u8], column: usize) -> u64
+    requires { ⌜ (column - 1 + dateWidth ≤ length (now line)) × (1 ≤ column → length (now hour) ≡ lengthOf RecordType.So2Concentration) ⌝ }
+    ensures { λ r. ⌜ r ≡ dateFault column (dateOn RecordType.So2Concentration (now (hour .entry))) (now (line .entry)) ⌝ }
+{
+    if column == 0 {
+        return 0;
+    }
+    date_fault(line, &hour[layout::HOUR_FROM..layout::HOUR_TO], column)
 }

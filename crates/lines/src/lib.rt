@@ -102,10 +102,10 @@ pub fn hour_line(facility: &[u8], rest: &[u8], period: Period, from: u64) -> Hou
     }
 }
 
-// The fault of a line that is due with its type and date; 0 is none.
-pub fn due_fault(facility: &[u8], date: &[u8], rest: &[u8], t: RecordType) -> u64
-    requires { ⌜ lengthOf RecordType.Facility ≤ length (now facility) ⌝ }
-    ensures { λ r. ⌜ r ≡ dueFault (now (facility .entry)) (dueOf t (now (date .entry))) (firstLine (now (rest .entry))) ⌝ }
+// The fault of a line that is due with its type; `hour` is the 200 line of its rank. 0 is none.
+pub fn due_fault(facility: &[u8], hour: &[u8], rest: &[u8], t: RecordType) -> u64
+    requires { ⌜ (lengthOf RecordType.Facility ≤ length (now facility)) × (1 ≤ dateColumn t → length (now hour) ≡ lengthOf RecordType.So2Concentration) ⌝ }
+    ensures { λ r. ⌜ r ≡ dueFault (now (facility .entry)) (dueOf t (now (hour .entry))) (firstLine (now (rest .entry))) ⌝ }
 {
     let common = faults::common_fault(facility, rest, t);
     if common != 0 {
@@ -113,7 +113,7 @@ pub fn due_fault(facility: &[u8], date: &[u8], rest: &[u8], t: RecordType) -> u6
     }
     let row = layout::row_of(t);
     let line = &rest[..row.length];
-    let dated = faults::date_fault(line, date, row.date);
+    let dated = faults::ranked_date_fault(line, hour, row.date);
     if dated != 0 {
         return dated;
     }

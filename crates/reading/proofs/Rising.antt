@@ -7,28 +7,23 @@ use native.Mathlib.Omega.{arith}
 use native.Mathlib.Numerals.{add-one}
 use lib.ListN.{length, drop, length-drop}
 use Rattle.calendar.specs.Calendar.{mostHours, IsQuarter}
-use Rattle.columns.specs.Columns.{columns}
-use Rattle.layout.specs.Layout.{lengthOf, dateColumn, dateWidth}
+use Rattle.layout.specs.Layout.{lengthOf}
 use Rattle.layout.specs.declared.RecordType.the-variants.{Facility, So2Concentration}
 use Rattle.lines.specs.Lines.{firstLine, lines}
 use Rattle.lines.specs.LineLaws.{lines-at, line-at, line-part}
-use Rattle.lines.specs.LineFaults.{typeIs, dateOn, hourIn, hourFault, hourLine}
-use Rattle.lines.specs.FaultLaws.{shape-length, hour-shape, hour-rises, hour-said, columns-of-line}
+use Rattle.lines.specs.LineFaults.{typeIs, hourIn, hourFault, hourLine}
+use Rattle.lines.specs.FaultLaws.{shape-length, hour-shape, hour-rises, hour-said}
 use Rattle.lines.specs.declared.Period.{Period}
 use Rattle.lines.specs.declared.HourLine.{HourLine}
 use Rattle.lines.specs.declared.HourLine.the-variants.{At, Faulty}
 use Rattle.reading.specs.Reading.{stoppedAt, walkLater, walkHours}
-use Rattle.reading.specs.Places.{facilityOf, dateIn, datesIn, Counted, hourStart}
+use Rattle.reading.specs.Places.{facilityOf, hourLineIn, hourLinesIn, Counted, hourStart}
 use Rattle.reading.specs.declared.Reading.{Reading}
 use Rattle.reading.proofs.Walking.{no-lines}
 
--- the date on the 200 line of rank n is where it is looked for later
-date-there : (file : List ℕ) (n at : ℕ) → at ≡ hourStart n → columns (at + dateColumn So2Concentration) dateWidth file ≡ dateIn file n
-date-there file n at e = rw e
-
 -- what the lines behind n 200 lines come to
 abbrev pub laterWhole : List ℕ → Period → ℕ → Reading
-laterWhole file period n = walkLater (facilityOf file) period (2 + n) (datesIn file n) (lines (drop (hourStart n) file))
+laterWhole file period n = walkLater (facilityOf file) period (2 + n) (hourLinesIn file n) (lines (drop (hourStart n) file))
 
 -- what the lines behind the facility line come to
 abbrev pub hoursWhole : List ℕ → Period → Reading
@@ -40,18 +35,18 @@ pub record Rising (file : List ℕ) (period : Period) (n from at : ℕ) : Type 0
   pub room : hourStart n ≤ length file + 1
   pub rise : n ≤ from
   pub most : from ≤ mostHours
-  pub left : walkHours (facilityOf file) period (2 + n) from (datesIn file n) (lines (drop at file)) ≡ hoursWhole file period
+  pub left : walkHours (facilityOf file) period (2 + n) from (hourLinesIn file n) (lines (drop at file)) ≡ hoursWhole file period
 
 pub rising-start : (file : List ℕ) (period : Period) → lengthOf Facility ≤ length file → Rising file period 0 0 (hourStart 0)
-unfolding datesIn
+unfolding hourLinesIn
 rising-start file period h = record { place = refl; room = omega arith; rise = omega arith; most = omega arith; left = refl }
 
 module _ (file : List ℕ) (period : Period) (n from at : ℕ) (w : Rising file period n from at) where
   pub rising-counted : Counted file n
   rising-counted = record { most = omega arith; room = w .room }
 
-  later : walkHours (facilityOf file) period (2 + n) from (datesIn file n) (lines (drop at file))
-      ≡ walkLater (facilityOf file) period (2 + n) (datesIn file n) (lines (drop at file)) →
+  later : walkHours (facilityOf file) period (2 + n) from (hourLinesIn file n) (lines (drop at file))
+      ≡ walkLater (facilityOf file) period (2 + n) (hourLinesIn file n) (lines (drop at file)) →
       laterWhole file period n ≡ hoursWhole file period
   later e = rw (← w .place) (sym e ∙ w .left)
 
@@ -60,10 +55,10 @@ module _ (file : List ℕ) (period : Period) (n from at : ℕ) (w : Rising file 
   rising-end h = later (rw (no-lines file at h))
 
   module _ (h : at < length file) where
-    whole : walkHours (facilityOf file) period (2 + n) from (datesIn file n) (lines (drop at file))
-        ≡ walkHours (facilityOf file) period (2 + n) from (datesIn file n)
+    whole : walkHours (facilityOf file) period (2 + n) from (hourLinesIn file n) (lines (drop at file))
+        ≡ walkHours (facilityOf file) period (2 + n) from (hourLinesIn file n)
         (firstLine (drop at file) ∷ lines (drop (at + (length (firstLine (drop at file)) + 1)) file))
-    whole = ap (walkHours (facilityOf file) period (2 + n) from (datesIn file n)) (lines-at file at h)
+    whole = ap (walkHours (facilityOf file) period (2 + n) from (hourLinesIn file n)) (lines-at file at h)
 
     pub rising-other : typeIs So2Concentration (firstLine (drop at file)) ≡ false →
         laterWhole file period n ≡ hoursWhole file period
@@ -75,12 +70,12 @@ module _ (file : List ℕ) (period : Period) (n from at : ℕ) (w : Rising file 
       abbrev after : HourLine → Reading
       after h = elim h [
         | At hour ↦
-            walkHours (facilityOf file) period (2 + n + 1) (hour + 1) (datesIn file n ++ (dateOn So2Concentration (firstLine (drop at file)) ∷ []))
+            walkHours (facilityOf file) period (2 + n + 1) (hour + 1) (hourLinesIn file n ++ (firstLine (drop at file) ∷ []))
             (lines (drop (at + (length (firstLine (drop at file)) + 1)) file))
         | Faulty number ↦ stoppedAt number (2 + n)
       ]
 
-      judged : walkHours (facilityOf file) period (2 + n) from (datesIn file n) (lines (drop at file))
+      judged : walkHours (facilityOf file) period (2 + n) from (hourLinesIn file n) (lines (drop at file))
           ≡ after (hourLine (facilityOf file) period from (firstLine (drop at file)))
       unfolding walkHours
       judged = whole ∙ rw (t, walkHours)
@@ -102,14 +97,12 @@ module _ (file : List ℕ) (period : Period) (n from at : ℕ) (w : Rising file 
         pub rising-below : IsQuarter (period .quarter) → (from ≤ hour) × (hour < mostHours)
         rising-below q = let r = hour-rises (facilityOf file) period from (firstLine (drop at file)) (said .0) q in rw (said .1) at r
 
-        date-first : dateOn So2Concentration (firstLine (drop at file)) ≡ dateIn file n
-        date-first =
-            rw (line-at file at (lengthOf So2Concentration) long)
-            (columns-of-line file at (lengthOf So2Concentration) (dateColumn So2Concentration) dateWidth (omega arith) (omega arith)
-            ∙ date-there file n at (w .place))
+        -- the 200 line of rank n is where it is looked for later
+        line-there : firstLine (drop at file) ≡ hourLineIn file n
+        line-there = line-at file at (lengthOf So2Concentration) long ∙ rw (w .place)
 
         pub rising-next : IsQuarter (period .quarter) → Rising file period (n + 1) (hour + 1) (at + (lengthOf So2Concentration + 1))
-        unfolding datesIn
+        unfolding hourLinesIn
         rising-next q =
             let b = rising-below q in
             let s : 2 + n + 1 ≡ 2 + suc n = omega arith in
@@ -118,5 +111,5 @@ module _ (file : List ℕ) (period : Period) (n from at : ℕ) (w : Rising file 
               room = omega (arith, rising-room, w .place);
               rise = omega (arith, w .rise);
               most = omega arith;
-              left = rw (add-one n) (sym (judged ∙ ap after e ∙ rw (long, date-first, s)) ∙ w .left);
+              left = rw (add-one n) (sym (judged ∙ ap after e ∙ rw (long, line-there, s)) ∙ w .left);
             }

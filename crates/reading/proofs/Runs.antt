@@ -3,83 +3,63 @@ use Prim.Native.Nat.{ℕ, zero, suc, _+_, _*_, _-_, _≤_, _<_}
 use mathlib.Core.Path.{_≡_, refl, sym, ap, _∙_}
 use mathlib.Core.List.{List, [], _∷_, _++_, map}
 use native.Mathlib.Omega.{arith}
-use native.Mathlib.Decide.{decLt}
 use native.Mathlib.Nat.{add-sub-cancel-left}
 use native.Mathlib.Numerals.{add-one}
-use lib.ListN.{length, take, drop, getD, length-append, length-map, drop-of-length-le, List·getD-append, List·getD-map}
-use lib.Seq.{drop-cons, getD-append-seam, getD-take, length-take-le}
-use Rattle.columns.specs.Columns.{columns}
-use Rattle.layout.specs.Layout.{recordOf, lengthOf, dateColumn, dateWidth, rowOf, order, typeAt, linesOf, countOf, shape}
+use lib.ListN.{length, take, drop, getD, length-map, drop-of-length-le, List·getD-map, length-drop}
+use lib.Seq.{drop-cons, getD-take, length-take-le}
+use Rattle.layout.specs.Layout.{recordOf, lengthOf, dateColumn, rowOf, order, typeAt, linesOf, countOf, shape}
+use Rattle.layout.specs.LayoutLaws.{once-undated}
 use Rattle.layout.specs.declared.RecordType.{RecordType}
 use Rattle.layout.specs.declared.RecordType.the-variants.{Facility, So2Concentration}
 use Rattle.layout.specs.declared.Run.{Run}
 use Rattle.layout.specs.declared.Run.the-variants.{Once, Hourly, Listed}
 use Rattle.layout.specs.declared.Row.{Row}
 use Rattle.lines.specs.LineFaults.{dueOf}
-use Rattle.reading.specs.Reading.{datesOf, runOf, runsOf}
-use Rattle.reading.specs.Places.{hourStart, dateIn, datesIn, dateFor, dateDue}
+use Rattle.reading.specs.Reading.{hoursDue, runOf, runsOf}
+use Rattle.reading.specs.Places.{hourStart, hourLineIn, hourLinesIn, hourFor, hourDue, Counted}
+use Rattle.reading.specs.HourLineLaws.{hour-lines-length, hour-lines-at}
 
--- the dates of the 200 lines
-
-pub dates-length : (file : List ℕ) (n : ℕ) → length (datesIn file n) ≡ n
-unfolding datesIn
-dates-length file zero = refl
-dates-length file (suc n) = rw length-append (omega (arith, dates-length file n))
-
-dates-at : (file : List ℕ) (n k : ℕ) → k < n → getD (datesIn file n) k [] ≡ dateIn file k
-unfolding datesIn
-dates-at file zero k h = absurd (omega arith)
-dates-at file (suc n) k h = go (dates-at file n k) (decLt k n)
-  where
-    go : (k < n → getD (datesIn file n) k [] ≡ dateIn file k) → Dec (k < n) → getD (datesIn file n ++ (dateIn file n ∷ [])) k [] ≡ dateIn file k
-    go ih (yes l) =
-        let m : k < length (datesIn file n) = omega (arith, dates-length file n) in
-        List·getD-append (datesIn file n) (dateIn file n ∷ []) [] k m ∙ ih l
-    go ih (no l) =
-        let e : k ≡ n = omega arith in
-        rw e (ap (λ (i : ℕ). getD (datesIn file n ++ (dateIn file n ∷ [])) i []) (sym (dates-length file n))
-        ∙ getD-append-seam (datesIn file n) (dateIn file n) [] [])
-
--- of those from rank k on: the first, and that none is left
-pub first-left : (file : List ℕ) (n k : ℕ) → k < n → drop k (datesIn file n) ≡ dateIn file k ∷ drop (k + 1) (datesIn file n)
+-- of the 200 lines from rank k on: the first, and that none is left
+pub first-left : (file : List ℕ) (n k : ℕ) → k < n → drop k (hourLinesIn file n) ≡ hourLineIn file k ∷ drop (k + 1) (hourLinesIn file n)
 first-left file n k h =
-    let m : k < length (datesIn file n) = omega (arith, dates-length file n) in
-    drop-cons (datesIn file n) k [] m ∙ rw (dates-at file n k h, add-one k)
+    let m : k < length (hourLinesIn file n) = omega (arith, hour-lines-length file n) in
+    drop-cons (hourLinesIn file n) k [] m ∙ rw (hour-lines-at file n k h, add-one k)
 
-pub dates-over : (file : List ℕ) (n k : ℕ) → n ≤ k → drop k (datesIn file n) ≡ []
-dates-over file n k h = let b : length (datesIn file n) ≤ k = omega (arith, dates-length file n) in drop-of-length-le (datesIn file n) b
+pub hour-lines-over : (file : List ℕ) (n k : ℕ) → n ≤ k → drop k (hourLinesIn file n) ≡ []
+hour-lines-over file n k h = let b : length (hourLinesIn file n) ≤ k = omega (arith, hour-lines-length file n) in drop-of-length-le (hourLinesIn file n) b
 
 -- the lines of one type that are due
 
 module _ (file : List ℕ) (n : ℕ) (t : RecordType) (k : ℕ) where
-  due-one : k < n → drop k (map (dueOf t) (datesIn file n)) ≡ dueOf t (dateIn file k) ∷ drop (k + 1) (map (dueOf t) (datesIn file n))
+  due-one : k < n → drop k (map (dueOf t) (hourLinesIn file n)) ≡ dueOf t (hourLineIn file k) ∷ drop (k + 1) (map (dueOf t) (hourLinesIn file n))
   due-one h =
-      let m : k < length (map (dueOf t) (datesIn file n)) = rw length-map (omega (arith, dates-length file n)) in
-      drop-cons (map (dueOf t) (datesIn file n)) k (dueOf t []) m
-      ∙ rw (List·getD-map (dueOf t) (datesIn file n) k [], dates-at file n k h, add-one k)
+      let m : k < length (map (dueOf t) (hourLinesIn file n)) = rw length-map (omega (arith, hour-lines-length file n)) in
+      drop-cons (map (dueOf t) (hourLinesIn file n)) k (dueOf t []) m
+      ∙ rw (List·getD-map (dueOf t) (hourLinesIn file n) k [], hour-lines-at file n k h, add-one k)
 
-  due-end : n ≤ k → drop k (map (dueOf t) (datesIn file n)) ≡ []
+  due-end : n ≤ k → drop k (map (dueOf t) (hourLinesIn file n)) ≡ []
   due-end h =
-      let m : length (map (dueOf t) (datesIn file n)) ≤ k = rw length-map (omega (arith, dates-length file n)) in
-      drop-of-length-le (map (dueOf t) (datesIn file n)) m
+      let m : length (map (dueOf t) (hourLinesIn file n)) ≤ k = rw length-map (omega (arith, hour-lines-length file n)) in
+      drop-of-length-le (map (dueOf t) (hourLinesIn file n)) m
 
 module _ (file : List ℕ) (n : ℕ) (t : RecordType) (k : ℕ) where
-  pub run-one : k < countOf (shape n) t → drop k (runOf t (datesIn file n)) ≡ dueOf t (dateDue file t k) ∷ drop (k + 1) (runOf t (datesIn file n))
-  unfolding runOf dateDue
+  pub run-one : k < countOf (shape n) t → drop k (runOf t (hourLinesIn file n)) ≡ dueOf t (hourDue file t k) ∷ drop (k + 1) (runOf t (hourLinesIn file n))
+  unfolding runOf hourDue
   run-one = go (recordOf t .run) k
     where
       go : (run : Run) (i : ℕ) → i < linesOf run (shape n) →
-          drop i (map (dueOf t) (datesOf run (datesIn file n))) ≡ dueOf t (dateFor run file i) ∷ drop (i + 1) (map (dueOf t) (datesOf run (datesIn file n)))
+          drop i (map (dueOf t) (hoursDue run (hourLinesIn file n)))
+          ≡ dueOf t (hourFor run file i) ∷ drop (i + 1) (map (dueOf t) (hoursDue run (hourLinesIn file n)))
       go Once zero h = refl
       go Once (suc i) h = absurd (omega arith)
       go Hourly i h = due-one file n t i h
       go Listed i h = due-one file n t i h
 
-  pub run-end : countOf (shape n) t ≤ k → drop k (runOf t (datesIn file n)) ≡ []
+  pub run-end : countOf (shape n) t ≤ k → drop k (runOf t (hourLinesIn file n)) ≡ []
   unfolding runOf
   run-end = go (recordOf t .run)
     where
-      go : (run : Run) → linesOf run (shape n) ≤ k → drop k (map (dueOf t) (datesOf run (datesIn file n))) ≡ []
+      go : (run : Run) → linesOf run (shape n) ≤ k → drop k (map (dueOf t) (hoursDue run (hourLinesIn file n))) ≡ []
       go Once h = drop-of-length-le (dueOf t [] ∷ []) h
       go Hourly h = due-end file n t k h
       go Listed h = due-end file n t k h
@@ -92,34 +72,48 @@ module _ (t : RecordType) {r : Row} {run : Run} (e : r ≡ rowOf t) (f : r .run 
   pub run-lines : (n : ℕ) → countOf (shape n) t ≡ linesOf run (shape n)
   run-lines n = ap (λ run. linesOf run (shape n)) (sym own-run)
 
-  pub run-date : (file : List ℕ) (k : ℕ) → dateFor run file k ≡ dateDue file t k
-  unfolding dateDue
-  run-date file k = ap (λ run. dateFor run file k) own-run
+  pub run-hour : (file : List ℕ) (k : ℕ) → hourFor run file k ≡ hourDue file t k
+  unfolding hourDue
+  run-hour file k = ap (λ run. hourFor run file k) own-run
 
--- the date on the 200 line of rank k, in bytes
-abbrev pub dateFrom : ℕ → ℕ
-dateFrom k = hourStart 0 + dateColumn So2Concentration - 1 + (lengthOf So2Concentration + 1) * k
+-- the 200 line of rank k, in bytes
+abbrev hourFrom : ℕ → ℕ
+hourFrom k = hourStart 0 + (lengthOf So2Concentration + 1) * k
 
-pub date-part : (file : List ℕ) (k : ℕ) → dateIn file k ≡ take (dateFrom k + dateWidth - dateFrom k) (drop (dateFrom k) file)
-unfolding columns
-date-part file k =
-    let here : hourStart k + dateColumn So2Concentration - 1 ≡ dateFrom k = omega arith in
-    rw (here, add-sub-cancel-left (dateFrom k) dateWidth)
+pub hour-part : (file : List ℕ) (k : ℕ) →
+    hourLineIn file k ≡ take (hourFrom k + lengthOf So2Concentration - hourFrom k) (drop (hourFrom k) file)
+hour-part file k =
+    let here : hourStart k ≡ hourFrom k = omega arith in
+    rw (here, add-sub-cancel-left (hourFrom k) (lengthOf So2Concentration))
+
+module _ (file : List ℕ) (n k : ℕ) (c : Counted file n) where
+  pub hour-long : k < n → length (hourLineIn file k) ≡ lengthOf So2Concentration
+  hour-long h = length-take-le (lengthOf So2Concentration) (drop (hourStart k) file) (omega (arith, c .room, length-drop (hourStart k) file))
+
+  -- a line with a date is judged by a whole 200 line
+  pub due-long : (t : RecordType) → k < countOf (shape n) t → 1 ≤ dateColumn t → length (hourDue file t k) ≡ lengthOf So2Concentration
+  unfolding hourDue
+  due-long t = go (recordOf t .run) refl
+    where
+      go : (run : Run) → recordOf t .run ≡ run → k < linesOf run (shape n) → 1 ≤ dateColumn t → length (hourFor run file k) ≡ lengthOf So2Concentration
+      go Once e h d = absurd (omega (arith, d, once-undated t e))
+      go Hourly e h d = hour-long h
+      go Listed e h d = hour-long h
 
 -- the types that follow, up to the place `end`
 
-module _ (place end : ℕ) (dates : List (List ℕ)) (b : end ≤ length order) where
+module _ (place end : ℕ) (hours : List (List ℕ)) (b : end ≤ length order) where
   few : length (take end order) ≡ end
   few = length-take-le end order b
 
-  pub runs-one : place < end → runsOf (drop place (take end order)) dates ≡ runOf (typeAt place) dates ++ runsOf (drop (place + 1) (take end order)) dates
+  pub runs-one : place < end → runsOf (drop place (take end order)) hours ≡ runOf (typeAt place) hours ++ runsOf (drop (place + 1) (take end order)) hours
   unfolding runsOf
   runs-one h =
       let m : place < length (take end order) = omega (arith, few) in
       let e : getD (take end order) place Facility ≡ typeAt place = getD-take end order place Facility h in
-      rw (add-one place) (ap (λ (ts : List RecordType). runsOf ts dates) (drop-cons (take end order) place Facility m)
-      ∙ ap (λ t. runOf t dates ++ runsOf (drop (suc place) (take end order)) dates) e)
+      rw (add-one place) (ap (λ (ts : List RecordType). runsOf ts hours) (drop-cons (take end order) place Facility m)
+      ∙ ap (λ t. runOf t hours ++ runsOf (drop (suc place) (take end order)) hours) e)
 
-  pub runs-end : end ≤ place → runsOf (drop place (take end order)) dates ≡ []
+  pub runs-end : end ≤ place → runsOf (drop place (take end order)) hours ≡ []
   unfolding runsOf
   runs-end h = let m : length (take end order) ≤ place = omega (arith, few) in rw (drop-of-length-le (take end order) m)

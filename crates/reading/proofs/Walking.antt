@@ -11,7 +11,7 @@ use Rattle.lines.specs.LineLaws.{lines-at, line-part}
 use Rattle.lines.specs.LineFaults.{Due, dueOf, dueFault}
 use Rattle.lines.specs.FaultLaws.{shape-length, due-shape}
 use Rattle.reading.specs.Reading.{stoppedAt, runOf, runsOf, After, walkDue, walkEnd}
-use Rattle.reading.specs.Places.{facilityOf, datesIn, dateDue}
+use Rattle.reading.specs.Places.{facilityOf, hourLinesIn, hourDue}
 use Rattle.reading.specs.Passages.{Here, PassesRuns, led, onAt, haltedAt}
 use Rattle.reading.specs.declared.walk.Cursor.{Cursor}
 use Rattle.reading.specs.declared.walk.Passage.{Passage}
@@ -86,26 +86,26 @@ module _ (file : List ℕ) (n : ℕ) (start : Cursor) (all : List Due) where
     unfolding walkDue
     walked-over w after = w .left after
 
-    module _ (t : RecordType) (k : ℕ) (ds : List Due) (w : Walked at line (drop k (runOf t (datesIn file n)) ++ ds)) where
+    module _ (t : RecordType) (k : ℕ) (ds : List Due) (w : Walked at line (drop k (runOf t (hourLinesIn file n)) ++ ds)) where
       pub walked-run : countOf (shape n) t ≤ k → Walked at line ds
       walked-run h = rw (run-end file n t k h) at w
 
       -- the line of rank k is due
-      next : k < countOf (shape n) t → Walked at line (dueOf t (dateDue file t k) ∷ (drop (k + 1) (runOf t (datesIn file n)) ++ ds))
+      next : k < countOf (shape n) t → Walked at line (dueOf t (hourDue file t k) ∷ (drop (k + 1) (runOf t (hourLinesIn file n)) ++ ds))
       next h = rw (run-one file n t k h) at w
 
       pub walked-missing : k < countOf (shape n) t → length file ≤ at → (after : After) → stoppedAt 10 line ≡ allFrom after
       walked-missing h p after = sym (due-missing (facilityOf file) line file at after _ _ p) ∙ next h .left after
 
       module _ (h : k < countOf (shape n) t) (p : at < length file) (f : ℕ)
-          (e : f ≡ dueFault (facilityOf file) (dueOf t (dateDue file t k)) (firstLine (drop at file))) where
+          (e : f ≡ dueFault (facilityOf file) (dueOf t (hourDue file t k)) (firstLine (drop at file))) where
         pub walked-found : (f ≡ 0 → ⊥) → (after : After) → stoppedAt f line ≡ allFrom after
         walked-found m after = sym (due-found (facilityOf file) line file at after p _ _ f e m) ∙ next h .left after
 
         pub walked-room : f ≡ 0 → at + lengthOf t ≤ length file
-        walked-room z = due-room (facilityOf file) line file at (λ line ls. stoppedAt 0 line) p (dueOf t (dateDue file t k)) [] f e z
+        walked-room z = due-room (facilityOf file) line file at (λ line ls. stoppedAt 0 line) p (dueOf t (hourDue file t k)) [] f e z
 
-        pub walked-next : f ≡ 0 → (long : ℕ) → long ≡ lengthOf t → Walked (at + (long + 1)) (line + 1) (drop (k + 1) (runOf t (datesIn file n)) ++ ds)
+        pub walked-next : f ≡ 0 → (long : ℕ) → long ≡ lengthOf t → Walked (at + (long + 1)) (line + 1) (drop (k + 1) (runOf t (hourLinesIn file n)) ++ ds)
         walked-next z long l =
             let b = walked-room z in
             record {
@@ -123,7 +123,7 @@ walked-join file n start all mid due at₁ line₁ at line v w =
 -- what a passage of runs has come to
 module _ (file : List ℕ) (n first end : ℕ) (start : Cursor) (r : Passage) where
   abbrev pub dueIn : ℕ → List Due
-  dueIn place = runsOf (drop place (take end order)) (datesIn file n)
+  dueIn place = runsOf (drop place (take end order)) (hourLinesIn file n)
 
   pub runs-halted : (number line : ℕ) → r ≡ haltedAt number line → ((after : After) → stoppedAt number line ≡ allFrom file n start (dueIn first) after) →
       PassesRuns file n first end start r
@@ -136,9 +136,9 @@ module _ (file : List ℕ) (n first end : ℕ) (start : Cursor) (r : Passage) wh
 -- the type at a place is next
 pub walked-type : (file : List ℕ) (n : ℕ) (start : Cursor) (all : List Due) (at line place end : ℕ) (t : RecordType) → place < end → end ≤ length order →
     t ≡ typeAt place →
-    Walked file n start all at line (runsOf (drop place (take end order)) (datesIn file n)) →
-    Walked file n start all at line (drop 0 (runOf t (datesIn file n)) ++ runsOf (drop (place + 1) (take end order)) (datesIn file n))
-walked-type file n start all at line place end t h b e w = rw (e, ← runs-one place end (datesIn file n) b h) w
+    Walked file n start all at line (runsOf (drop place (take end order)) (hourLinesIn file n)) →
+    Walked file n start all at line (drop 0 (runOf t (hourLinesIn file n)) ++ runsOf (drop (place + 1) (take end order)) (hourLinesIn file n))
+walked-type file n start all at line place end t h b e w = rw (e, ← runs-one place end (hourLinesIn file n) b h) w
 
 -- where a passage has led, what follows is read
 pub leads : (file : List ℕ) {r x : Passage} (whole : After → Reading) → ((after : After) → led file r after ≡ whole after) → r ≡ x → (after : After) →

@@ -20,9 +20,9 @@ use Rattle.layout.specs.declared.Shape.{Shape}
 use Rattle.lines.specs.Lines.{firstLine, lines, last}
 use Rattle.lines.specs.LineLaws.{lines-at, line-at}
 use Rattle.lines.specs.LineFaults.{typeIs, shapeFault, valuesFault, Due, dueOf, dueFault}
-use Rattle.lines.specs.FaultLaws.{shape-type, shape-length, due-shape, due-values}
+use Rattle.lines.specs.FaultLaws.{shape-type, shape-length, due-shape, due-right}
 use Rattle.lines.specs.EndLaws.{line-within}
-use Rattle.reading.specs.Reading.{stoppedAt, datesOf, runOf, runsOf, After, walkDue, walk, readOf}
+use Rattle.reading.specs.Reading.{stoppedAt, hoursDue, runOf, runsOf, After, walkDue, walk, readOf}
 use Rattle.reading.specs.Recorded.{idle}
 use Rattle.reading.specs.declared.Report.{Report}
 use Rattle.reading.specs.declared.Reading.{Reading}
@@ -71,13 +71,13 @@ matches-walked first line (d ∷ ds) (l ∷ ls) rest after m =
     let z : line + 1 + length ds ≡ line + suc (length ds) = omega arith in
     rw (m .0, walkDue, ← z) (matches-walked first (line + 1) ds ls rest after (m .1))
 
--- the dates of a type's lines
-abbrev datesFor : RecordType → List (List ℕ) → List (List ℕ)
-datesFor t dates = datesOf (recordOf t .run) dates
+-- the 200 lines for a type's lines
+abbrev hoursFor : RecordType → List (List ℕ) → List (List ℕ)
+hoursFor t hours = hoursDue (recordOf t .run) hours
 
 -- a report of a shape has a line of the type for each of them
 abbrev pub Counts : Shape → List (List ℕ) → RecordType → Type 0
-Counts s dates t = length (datesFor t dates) ≡ countOf s t
+Counts s hours t = length (hoursFor t hours) ≡ countOf s t
 
 module _ (file : List ℕ) (ends : last file ≡ 10) (facility : List ℕ) where
   -- the first of the lines from `at` on has the type and, unless it is idle, every value in its range; the others follow it
@@ -118,43 +118,43 @@ module _ (file : List ℕ) (ends : last file ≡ 10) (facility : List ℕ) where
       rw e at (q k (le-of-suc-le-suc h))
 
   -- the first of the lines that are due stands at `at`, and the others follow it
-  first-due : (t : RecordType) (date : List ℕ) (ds : List Due) (ls rest : List (List ℕ)) (at : ℕ) → lines (drop at file) ≡ ls →
-      Matches facility (dueOf t date ∷ ds) ls rest →
+  first-due : (t : RecordType) (hour : List ℕ) (ds : List Due) (ls rest : List (List ℕ)) (at : ℕ) → lines (drop at file) ≡ ls →
+      Matches facility (dueOf t hour ∷ ds) ls rest →
       LineRight t at × Matches facility ds (lines (drop (at + (lengthOf t + 1)) file)) rest × (at + (lengthOf t + 1) ≤ length file)
-  first-due t date ds [] rest at e m = absurd m
-  first-due t date ds (l ∷ ls) rest at e m =
-      let f = due-shape facility (dueOf t date) l (m .0) in
-      let r = line-right t l ls at e f (λ i. due-values facility (dueOf t date) l (m .0)) in
+  first-due t hour ds [] rest at e m = absurd m
+  first-due t hour ds (l ∷ ls) rest at e m =
+      let f = due-shape facility (dueOf t hour) l (m .0) in
+      let r = line-right t l ls at e f (λ i. due-right facility (dueOf t hour) l (m .0) .values) in
       (r .0, rw (r .1) (m .1), r .2)
 
-  -- the lines of one type, one for each date
-  run-right : (t : RecordType) (dates : List (List ℕ)) (due : List Due) (rest : List (List ℕ)) (at : ℕ) → at ≤ length file →
-      Matches facility (map (dueOf t) dates ++ due) (lines (drop at file)) rest →
-      ((k : ℕ) → k < length dates → LineRight t (at + (lengthOf t + 1) * k))
-      × Matches facility due (lines (drop (at + (lengthOf t + 1) * length dates) file)) rest
-      × (at + (lengthOf t + 1) * length dates ≤ length file)
+  -- the lines of one type, one for each 200 line
+  run-right : (t : RecordType) (hours : List (List ℕ)) (due : List Due) (rest : List (List ℕ)) (at : ℕ) → at ≤ length file →
+      Matches facility (map (dueOf t) hours ++ due) (lines (drop at file)) rest →
+      ((k : ℕ) → k < length hours → LineRight t (at + (lengthOf t + 1) * k))
+      × Matches facility due (lines (drop (at + (lengthOf t + 1) * length hours) file)) rest
+      × (at + (lengthOf t + 1) * length hours ≤ length file)
   run-right t [] due rest at b m =
       let e : at + (lengthOf t + 1) * 0 ≡ at = omega arith in
       ((λ k h. absurd (not-suc-le-zero h)), rw e m, rw e b)
-  run-right t (date ∷ dates) due rest at b m =
-      let f = first-due t date (map (dueOf t) dates ++ due) (lines (drop at file)) rest at refl m in
-      let r = run-right t dates due rest (at + (lengthOf t + 1)) (f .2) (f .1) in
-      let e : at + (lengthOf t + 1) + (lengthOf t + 1) * length dates ≡ at + (lengthOf t + 1) * suc (length dates) = omega arith in
-      (run-more t at (length dates) (f .0) (r .0), rw e at (r .1), rw e at (r .2))
+  run-right t (hour ∷ hours) due rest at b m =
+      let f = first-due t hour (map (dueOf t) hours ++ due) (lines (drop at file)) rest at refl m in
+      let r = run-right t hours due rest (at + (lengthOf t + 1)) (f .2) (f .1) in
+      let e : at + (lengthOf t + 1) + (lengthOf t + 1) * length hours ≡ at + (lengthOf t + 1) * suc (length hours) = omega arith in
+      (run-more t at (length hours) (f .0) (r .0), rw e at (r .1), rw e at (r .2))
 
   -- the lines of types, one type after the other
   unfoldable pub RunsRight : List RecordType → Shape → ℕ → Type 0
   RunsRight [] s at = Unit {0}
   RunsRight (t ∷ ts) s at = ((k : ℕ) → k < countOf s t → LineRight t (at + (lengthOf t + 1) * k)) × RunsRight ts s (at + bytesOf s t)
 
-  pub runs-right : (ts : List RecordType) (s : Shape) (dates rest : List (List ℕ)) (at : ℕ) → All (Counts s dates) ts → at ≤ length file →
-      Matches facility (runsOf ts dates) (lines (drop at file)) rest →
+  pub runs-right : (ts : List RecordType) (s : Shape) (hours rest : List (List ℕ)) (at : ℕ) → All (Counts s hours) ts → at ≤ length file →
+      Matches facility (runsOf ts hours) (lines (drop at file)) rest →
       RunsRight ts s at × (lines (drop (at + totalOf (bytesOf s) ts) file) ≡ rest) × (at + totalOf (bytesOf s) ts ≤ length file)
   unfolding RunsRight runsOf runOf totalOf
-  runs-right [] s dates rest at c b m = let z : at + 0 ≡ at = omega arith in (tt, rw z m, rw z b)
-  runs-right (t ∷ ts) s dates rest at c b m =
-      let r = run-right t (datesFor t dates) (runsOf ts dates) rest at b m in
-      let i = runs-right ts s dates rest (at + bytesOf s t) (c .1) (rw (c .0) at (r .2)) (rw (c .0) at (r .1)) in
+  runs-right [] s hours rest at c b m = let z : at + 0 ≡ at = omega arith in (tt, rw z m, rw z b)
+  runs-right (t ∷ ts) s hours rest at c b m =
+      let r = run-right t (hoursFor t hours) (runsOf ts hours) rest at b m in
+      let i = runs-right ts s hours rest (at + bytesOf s t) (c .1) (rw (c .0) at (r .2)) (rw (c .0) at (r .1)) in
       let z : at + bytesOf s t + totalOf (bytesOf s) ts ≡ at + (bytesOf s t + totalOf (bytesOf s) ts) = omega arith in
       ((rw (c .0) at (r .0), i .0), rw z at (i .1), rw z at (i .2))
 

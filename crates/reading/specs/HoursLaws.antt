@@ -15,7 +15,7 @@ use Rattle.layout.specs.Layout.{lengthOf, later, bytesOf, offsetOf, shape, shap
 use Rattle.layout.specs.declared.RecordType.the-variants.{So2Concentration, Operation}
 use Rattle.lines.specs.Lines.{lines, last}
 use Rattle.lines.specs.LineLaws.{lines-at}
-use Rattle.lines.specs.LineFaults.{typeIs, dateOn, operates, hourFault, hourLine}
+use Rattle.lines.specs.LineFaults.{typeIs, operates, hourFault, hourLine}
 use Rattle.lines.specs.FaultLaws.{hour-shape, hour-values, hour-rises, hour-said}
 use Rattle.lines.specs.declared.Period.{Period}
 use Rattle.lines.specs.declared.HourLine.{HourLine}
@@ -50,25 +50,25 @@ module _ (file : List ℕ) (ends : last file ≡ 10) (facility : List ℕ) (peri
     pub size : hourStart n + totalOf (bytesOf (shapeWith n count)) (later So2Concentration) ≡ length file
     pub operating : (number : ℕ) → length (having operates (numbered number (linesAt file Operation (offsetOf (shapeWith n count) Operation 0) count))) ≡ n
 
-  later-right : (line : ℕ) (dates ls : List (List ℕ)) (r : Report) → lines (drop (hourStart (length dates)) file) ≡ ls →
-      hourStart (length dates) ≤ length file →
-      walkLater facility period line dates ls ≡ Clean r → LaterRight (length dates) r
+  later-right : (line : ℕ) (hours ls : List (List ℕ)) (r : Report) → lines (drop (hourStart (length hours)) file) ≡ ls →
+      hourStart (length hours) ≤ length file →
+      walkLater facility period line hours ls ≡ Clean r → LaterRight (length hours) r
   unfolding walkLater walkListed walkLast RunsRight totalOf
-  later-right line dates ls r e b w =
-      let n = length dates in
-      let d = due-clean facility line (runsOf firstTypes dates) ls (λ next rest. walkListed facility period next dates rest) r w in
-      let f = runs-right file ends facility firstTypes (shape n) dates (d .0) (hourStart n) (refl, (refl, (refl, tt))) b (rw e (d .1)) in
-      let here = line + length (runsOf firstTypes dates) in
+  later-right line hours ls r e b w =
+      let n = length hours in
+      let d = due-clean facility line (runsOf firstTypes hours) ls (λ next rest. walkListed facility period next hours rest) r w in
+      let f = runs-right file ends facility firstTypes (shape n) hours (d .0) (hourStart n) (refl, (refl, (refl, tt))) b (rw e (d .1)) in
+      let here = line + length (runsOf firstTypes hours) in
       let at = hourStart n + totalOf (bytesOf (shape n)) firstTypes in
-      let o = listed-right file ends facility period quarter (λ next rest. walkLast facility period (shapeWith n (next - here)) next dates rest) r
-      (d .0) here 0 at dates (f .1) (f .2) (omega arith) (d .2) in
+      let o = listed-right file ends facility period quarter (λ next rest. walkLast facility period (shapeWith n (next - here)) next hours rest) r
+      (d .0) here 0 at hours (f .1) (f .2) (omega arith) (d .2) in
       let z : here + o .count - here ≡ o .count = omega arith in
       let s = shapeWith n (o .count) in
       let report : Report = record { period = period; shape = s } in
       let next = at + (lengthOf Operation + 1) * o .count in
-      let c = due-clean facility (here + o .count) (runsOf lastTypes dates) (lines (drop next file)) (walkEnd report) r (rw z at (o .next)) in
-      let l = runs-right file ends facility lastTypes s dates (c .0) next (refl, (refl, (refl, (refl, tt)))) (o .room) (c .1) in
-      let q = end-clean report (here + o .count + length (runsOf lastTypes dates)) (c .0) r (c .2) in
+      let c = due-clean facility (here + o .count) (runsOf lastTypes hours) (lines (drop next file)) (walkEnd report) r (rw z at (o .next)) in
+      let l = runs-right file ends facility lastTypes s hours (c .0) next (refl, (refl, (refl, (refl, tt)))) (o .room) (c .1) in
+      let q = end-clean report (here + o .count + length (runsOf lastTypes hours)) (c .0) r (c .2) in
       let v = file-over (next + totalOf (bytesOf s) lastTypes) (l .2) (l .1 ∙ q .0) in
       let y : at ≡ offsetOf s Operation 0 = omega arith in
       record {
@@ -88,16 +88,16 @@ module _ (file : List ℕ) (ends : last file ≡ 10) (facility : List ℕ) (peri
     pub each : (j : ℕ) → k ≤ j → j < hours → LineRight file ends facility So2Concentration (hourStart j)
     pub later : LaterRight hours r
 
-  after-hours : (line k : ℕ) (dates ls : List (List ℕ)) (r : Report) → lines (drop (hourStart k) file) ≡ ls → hourStart k ≤ length file → length dates ≡ k →
+  after-hours : (line k : ℕ) (hours ls : List (List ℕ)) (r : Report) → lines (drop (hourStart k) file) ≡ ls → hourStart k ≤ length file → length hours ≡ k →
       k ≤ mostHours →
-      walkLater facility period line dates ls ≡ Clean r → HoursRight k r
-  after-hours line k dates ls r e b l m w =
+      walkLater facility period line hours ls ≡ Clean r → HoursRight k r
+  after-hours line k hours ls r e b l m w =
       record {
-        hours = length dates;
+        hours = length hours;
         more = omega arith;
         most = omega arith;
         each = λ j p h. absurd (omega arith);
-        later = later-right line dates ls r (rw l e) (rw l b) w;
+        later = later-right line hours ls r (rw l e) (rw l b) w;
       }
 
   -- a 200 line without fault stands in its place, and the lines that follow it in theirs
@@ -109,28 +109,28 @@ module _ (file : List ℕ) (ends : last file ≡ 10) (facility : List ℕ) (peri
       let n : hourStart k + (lengthOf So2Concentration + 1) ≡ hourStart (suc k) = omega arith in
       (l .0, rw n at (l .1), rw n at (l .2))
 
-  pub hours-right : (ls : List (List ℕ)) (line from k : ℕ) (dates : List (List ℕ)) (r : Report) → lines (drop (hourStart k) file) ≡ ls →
+  pub hours-right : (ls : List (List ℕ)) (line from k : ℕ) (hours : List (List ℕ)) (r : Report) → lines (drop (hourStart k) file) ≡ ls →
       hourStart k ≤ length file →
-      length dates ≡ k → k ≤ from → from ≤ mostHours → walkHours facility period line from dates ls ≡ Clean r → HoursRight k r
+      length hours ≡ k → k ≤ from → from ≤ mostHours → walkHours facility period line from hours ls ≡ Clean r → HoursRight k r
   unfolding walkHours
-  hours-right [] line from k dates r e b l p q w = after-hours line k dates [] r e b l (omega arith) w
-  hours-right (x ∷ ls) line from k dates r e b l p q w =
+  hours-right [] line from k hours r e b l p q w = after-hours line k hours [] r e b l (omega arith) w
+  hours-right (x ∷ ls) line from k hours r e b l p q w =
       go (typeIs So2Concentration x) w (hourLine facility period from x) refl
-      (λ h a c d g. hours-right ls (line + 1) (h + 1) (suc k) (dates ++ (dateOn So2Concentration x ∷ [])) r a c
-      (length-append dates (dateOn So2Concentration x ∷ []) ∙ omega arith) d g)
+      (λ h a c d g. hours-right ls (line + 1) (h + 1) (suc k) (hours ++ (x ∷ [])) r a c
+      (length-append hours (x ∷ []) ∙ omega arith) d g)
     where
       next : ℕ → Reading
-      next hour = walkHours facility period (line + 1) (hour + 1) (dates ++ (dateOn So2Concentration x ∷ [])) ls
+      next hour = walkHours facility period (line + 1) (hour + 1) (hours ++ (x ∷ [])) ls
 
       said : HourLine → Reading
       said h = elim h [ At hour ↦ next hour | FaultyHour number ↦ stoppedAt number line ]
 
-      go : (t : Bool) → elim t [ false ↦ walkLater facility period line dates (x ∷ ls) | true ↦ said (hourLine facility period from x) ] ≡ Clean r →
+      go : (t : Bool) → elim t [ false ↦ walkLater facility period line hours (x ∷ ls) | true ↦ said (hourLine facility period from x) ] ≡ Clean r →
           (h : HourLine) → hourLine facility period from x ≡ h →
           ((hour : ℕ) → lines (drop (hourStart (suc k)) file) ≡ ls → hourStart (suc k) ≤ length file → suc k ≤ hour + 1 → hour + 1 ≤ mostHours → next hour
           ≡ Clean r → HoursRight (suc k) r) →
           HoursRight k r
-      go false v h g ih = after-hours line k dates (x ∷ ls) r e b l (omega arith) v
+      go false v h g ih = after-hours line k hours (x ∷ ls) r e b l (omega arith) v
       go true v (FaultyHour number) g ih = never-clean number line r (rw g at v)
       go true v (At hour) g ih =
           let f = hour-said facility period from x hour g in

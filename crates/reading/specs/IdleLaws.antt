@@ -10,6 +10,7 @@ use borrow.Author.Tests.{eqb-true, eqb-false}
 use Rattle.exact.specs.Logic.{ranked, both, All}
 use Rattle.columns.specs.Number.{numberOf}
 use Rattle.calendar.specs.Calendar.{IsQuarter}
+use Rattle.columns.specs.Columns.{columns}
 use Rattle.layout.specs.Layout.{codeOf, quarterDigit, valueAt, shape, shapeWith, thousandsOf, Within}
 use Rattle.layout.specs.declared.RecordType.{RecordType}
 use Rattle.layout.specs.declared.RecordType.the-variants.{Facility, So2Concentration, NoxConcentration, Co2Concentration, VolumetricFlow, Operation}
@@ -18,7 +19,7 @@ use Rattle.layout.specs.declared.Shape.{Shape}
 use Rattle.stamp.specs.StampLaws.{is-quarter}
 use Rattle.formulas.specs.declared.hour.Hour.{Hour}
 use Rattle.lines.specs.Lines.{lines, last}
-use Rattle.lines.specs.LineFaults.{typeIs, fieldIn, facilityLine, dateOn, hourLine, Due, dueOf, dueFault, operates, operationLine}
+use Rattle.lines.specs.LineFaults.{typeIs, fieldIn, facilityLine, hourLine, Due, dueOf, dueFault, operates, operationLine}
 use Rattle.lines.specs.FaultLaws.{type-same, shape-type, facility-shape, facility-quarter, facility-said, due-shape, dated-rises}
 use Rattle.lines.specs.OperationLaws.{said-operating, said-idle, operation-dated, operation-earlier, operation-said, operating-left}
 use Rattle.lines.specs.declared.Period.{Period}
@@ -29,7 +30,7 @@ use Rattle.lines.specs.declared.HourLine.the-variants.{At, Faulty as FaultyHour
 use Rattle.lines.specs.declared.operation.OperationLine.{OperationLine}
 use Rattle.lines.specs.declared.operation.OperationLine.the-variants.{Operating, Idle, Faulty as FaultyOperation}
 use Rattle.reading.specs.Reading.{stoppedAt, firstTypes, lastTypes, runOf, runsOf, After, walkDue, endOperations, walkOperations}
-use Rattle.reading.specs.Reading.{walkEnd, walkLast, walkListed, walkLater, walkHours, walk, readOf}
+use Rattle.reading.specs.Reading.{walkEnd, walkLast, walkListed, walkLater, walkHours, walk, readOf, nextDate}
 use Rattle.reading.specs.Recorded.{Line, linesWith, idle, recordOfType, recordsOf, valueOn, hourAt, hourCount, hoursOf, totalsIn}
 use Rattle.reading.specs.RecordedLaws.{operation-idle, other-idle, typed-idle}
 use Rattle.reading.specs.Idle.{withoutIdle, WithoutIdle}
@@ -152,16 +153,16 @@ due-kept facility (d ∷ ds) o (l ∷ ls) rest m =
 
 module _ (facility : List ℕ) (period : Period) where
   -- behind the 300 lines of a file: the rest of it, also where the idle ones are left out
-  record Kept (line line′ from′ : ℕ) (dates ls : List (List ℕ)) (after : After) (r : Report) : Type 0 where
+  record Kept (line line′ from′ : ℕ) (hours ls : List (List ℕ)) (after : After) (r : Report) : Type 0 where
     count : ℕ
     rest : List (List ℕ)
     clean : after (line + count) rest ≡ Clean r
     passed : (after′ : After) →
-        walkOperations facility period line′ from′ dates (withoutIdle ls) after′ ≡ after′ (line′ + length dates) (withoutIdle rest)
+        walkOperations facility period line′ from′ hours (withoutIdle ls) after′ ≡ after′ (line′ + length hours) (withoutIdle rest)
 
-  end-kept : (number line line′ from′ : ℕ) (dates ls : List (List ℕ)) (after : After) (r : Report) → endOperations number line dates ls after ≡ Clean r →
+  end-kept : (number line line′ from′ : ℕ) (hours ls : List (List ℕ)) (after : After) (r : Report) → endOperations number line hours ls after ≡ Clean r →
       ((after′ : After) → walkOperations facility period line′ from′ [] (withoutIdle ls) after′ ≡ after′ line′ (withoutIdle ls)) →
-      Kept line line′ from′ dates ls after r
+      Kept line line′ from′ hours ls after r
   unfolding endOperations
   end-kept number line line′ from′ (d ∷ ds) ls after r e f = never-clean number line r e
   end-kept number line line′ from′ [] ls after r e f =
@@ -169,36 +170,36 @@ module _ (facility : List ℕ) (period : Period) where
       let y : line′ + 0 ≡ line′ = omega arith in
       record { count = 0; rest = ls; clean = rw z e; passed = λ after′. rw y (f after′) }
 
-  operations-kept : (ls : List (List ℕ)) (line line′ from from′ : ℕ) (dates : List (List ℕ)) (after : After) (r : Report) → from′ ≤ from →
+  operations-kept : (ls : List (List ℕ)) (line line′ from from′ : ℕ) (hours : List (List ℕ)) (after : After) (r : Report) → from′ ≤ from →
       IsQuarter (period .quarter) →
-      walkOperations facility period line from dates ls after ≡ Clean r → Kept line line′ from′ dates ls after r
+      walkOperations facility period line from hours ls after ≡ Clean r → Kept line line′ from′ hours ls after r
   unfolding walkOperations endOperations withoutIdle
-  operations-kept [] line line′ from from′ dates after r h q e = end-kept 10 line line′ from′ dates [] after r e (λ after′. refl)
-  operations-kept (x ∷ ls) line line′ from from′ dates after r h q e =
-      go (typeIs Operation x) refl e (operationLine facility period from (getD dates 0 []) x) refl
+  operations-kept [] line line′ from from′ hours after r h q e = end-kept 10 line line′ from′ hours [] after r e (λ after′. refl)
+  operations-kept (x ∷ ls) line line′ from from′ hours after r h q e =
+      go (typeIs Operation x) refl e (operationLine facility period from (nextDate hours) x) refl
       (λ m line″ f left. operations-kept ls (line + 1) line″ (m + 1) f left after r)
     where
       step : OperationLine → Reading
       step o = elim o [
-        | Operating hour ↦ walkOperations facility period (line + 1) (hour + 1) (drop 1 dates) ls after
-        | Idle hour ↦ walkOperations facility period (line + 1) (hour + 1) dates ls after
+        | Operating hour ↦ walkOperations facility period (line + 1) (hour + 1) (drop 1 hours) ls after
+        | Idle hour ↦ walkOperations facility period (line + 1) (hour + 1) hours ls after
         | FaultyOperation number ↦ stoppedAt number line
       ]
 
       go : (t : Bool) → typeIs Operation x ≡ t →
-          elim t [ false ↦ endOperations 2 line dates (x ∷ ls) after | true ↦ step (operationLine facility period from (getD dates 0 []) x) ] ≡ Clean r →
-          (o : OperationLine) → operationLine facility period from (getD dates 0 []) x ≡ o →
+          elim t [ false ↦ endOperations 2 line hours (x ∷ ls) after | true ↦ step (operationLine facility period from (nextDate hours) x) ] ≡ Clean r →
+          (o : OperationLine) → operationLine facility period from (nextDate hours) x ≡ o →
           ((m line″ f : ℕ) (left : List (List ℕ)) → f ≤ m + 1 → IsQuarter (period .quarter) →
           walkOperations facility period (line + 1) (m + 1) left ls after ≡ Clean r → Kept (line + 1) line″ f left ls after r) →
-          Kept line line′ from′ dates (x ∷ ls) after r
+          Kept line line′ from′ hours (x ∷ ls) after r
       go false t v o g ih =
           let stays = kept-line x ls (other-idle x t) in
-          end-kept 2 line line′ from′ dates (x ∷ ls) after r v (λ after′. rw (stays, t, walkOperations))
+          end-kept 2 line line′ from′ hours (x ∷ ls) after r v (λ after′. rw (stays, t, walkOperations))
       go true t v (FaultyOperation number) g ih = never-clean number line r (rw g at v)
       go true t v (Idle hour) g ih =
-          let s = said-idle facility period from (getD dates 0 []) x hour g in
-          let rise = dated-rises facility period Operation from x (operation-dated facility period from (getD dates 0 []) x (s .right)) q in
-          let k = ih hour line′ from′ dates (omega (arith, rise .0, s .hour)) q (rw g at v) in
+          let s = said-idle facility period from (nextDate hours) x hour g in
+          let rise = dated-rises facility period Operation from x (operation-dated facility period from (nextDate hours) x (s .right)) q in
+          let k = ih hour line′ from′ hours (omega (arith, rise .0, s .hour)) q (rw g at v) in
           let z : line + 1 + k .count ≡ line + suc (k .count) = omega arith in
           record {
             count = suc (k .count);
@@ -207,13 +208,13 @@ module _ (facility : List ℕ) (period : Period) where
             passed = λ after′. rw (idle-left x ls (operation-idle x t ∙ ap not (s .operates))) (k .passed after′);
           }
       go true t v (Operating hour) g ih =
-          let s = said-operating facility period from (getD dates 0 []) x hour g in
-          let k = ih hour (line′ + 1) (hour + 1) (drop 1 dates) (omega arith) q (rw g at v) in
+          let s = said-operating facility period from (nextDate hours) x hour g in
+          let k = ih hour (line′ + 1) (hour + 1) (drop 1 hours) (omega arith) q (rw g at v) in
           let z : line + 1 + k .count ≡ line + suc (k .count) = omega arith in
-          let l = one-less dates (operating-left facility period from (getD dates 0 []) x (s .right) (s .operates)) in
-          let y : line′ + 1 + length (drop 1 dates) ≡ line′ + length dates = omega arith in
-          let again : operationLine facility period from′ (getD dates 0 []) x ≡ Operating hour =
-          operation-said facility period from′ (getD dates 0 []) x (operation-earlier facility period from (getD dates 0 []) x (s .right) from′ h)
+          let l = one-less hours (operating-left facility period from (nextDate hours) x (s .right) (s .operates)) in
+          let y : line′ + 1 + length (drop 1 hours) ≡ line′ + length hours = omega arith in
+          let again : operationLine facility period from′ (nextDate hours) x ≡ Operating hour =
+          operation-said facility period from′ (nextDate hours) x (operation-earlier facility period from (nextDate hours) x (s .right) from′ h)
           ∙ rw (s .operates, s .hour) in
           record {
             count = suc (k .count);
@@ -226,33 +227,33 @@ module _ (facility : List ℕ) (period : Period) where
   abbrev keptReport : Report → Report
   keptReport r = record { period = r .period; shape = shape (r .shape .hours) }
 
-  last-kept : (s s′ : Shape) (line line′ : ℕ) (dates ls : List (List ℕ)) (r : Report) → walkLast facility period s line dates ls ≡ Clean r →
-      (walkLast facility period s′ line′ dates (withoutIdle ls) ≡ Clean (record { period = period; shape = s′ })) × (r ≡ record { period = period; shape = s })
+  last-kept : (s s′ : Shape) (line line′ : ℕ) (hours ls : List (List ℕ)) (r : Report) → walkLast facility period s line hours ls ≡ Clean r →
+      (walkLast facility period s′ line′ hours (withoutIdle ls) ≡ Clean (record { period = period; shape = s′ })) × (r ≡ record { period = period; shape = s })
   unfolding walkLast walkEnd withoutIdle
-  last-kept s s′ line line′ dates ls r e =
-      let d = due-clean facility line (runsOf lastTypes dates) ls (walkEnd (record { period = period; shape = s })) r e in
+  last-kept s s′ line line′ hours ls r e =
+      let d = due-clean facility line (runsOf lastTypes hours) ls (walkEnd (record { period = period; shape = s })) r e in
       let c = end-clean (record { period = period; shape = s }) _ (d .0) r (d .2) in
-      let m = due-kept facility (runsOf lastTypes dates) (runs-other lastTypes dates refl) ls (d .0) (d .1) in
-      let n : Matches facility (runsOf lastTypes dates) (withoutIdle ls) [] = rw (c .0) at m in
-      (matches-walked facility line′ (runsOf lastTypes dates) (withoutIdle ls) [] _ n, c .1)
+      let m = due-kept facility (runsOf lastTypes hours) (runs-other lastTypes hours refl) ls (d .0) (d .1) in
+      let n : Matches facility (runsOf lastTypes hours) (withoutIdle ls) [] = rw (c .0) at m in
+      (matches-walked facility line′ (runsOf lastTypes hours) (withoutIdle ls) [] _ n, c .1)
 
-  listed-kept : IsQuarter (period .quarter) → (line line′ : ℕ) (dates ls : List (List ℕ)) (r : Report) → walkListed facility period line dates ls ≡ Clean r →
-      walkListed facility period line′ dates (withoutIdle ls) ≡ Clean (keptReport r)
+  listed-kept : IsQuarter (period .quarter) → (line line′ : ℕ) (hours ls : List (List ℕ)) (r : Report) → walkListed facility period line hours ls ≡ Clean r →
+      walkListed facility period line′ hours (withoutIdle ls) ≡ Clean (keptReport r)
   unfolding walkListed
-  listed-kept q line line′ dates ls r e =
-      let k = operations-kept ls line line′ 0 0 dates _ r (omega arith) q e in
-      let z : line′ + length dates - line′ ≡ length dates = omega arith in
-      let l = last-kept _ (shapeWith (length dates) (line′ + length dates - line′)) (line + k .count) (line′ + length dates) dates (k .rest) r (k .clean) in
+  listed-kept q line line′ hours ls r e =
+      let k = operations-kept ls line line′ 0 0 hours _ r (omega arith) q e in
+      let z : line′ + length hours - line′ ≡ length hours = omega arith in
+      let l = last-kept _ (shapeWith (length hours) (line′ + length hours - line′)) (line + k .count) (line′ + length hours) hours (k .rest) r (k .clean) in
       k .passed _ ∙ l .0 ∙ rw (z, l .1)
 
-  later-kept : IsQuarter (period .quarter) → (line line′ : ℕ) (dates ls : List (List ℕ)) (r : Report) → walkLater facility period line dates ls ≡ Clean r →
-      walkLater facility period line′ dates (withoutIdle ls) ≡ Clean (keptReport r)
+  later-kept : IsQuarter (period .quarter) → (line line′ : ℕ) (hours ls : List (List ℕ)) (r : Report) → walkLater facility period line hours ls ≡ Clean r →
+      walkLater facility period line′ hours (withoutIdle ls) ≡ Clean (keptReport r)
   unfolding walkLater
-  later-kept q line line′ dates ls r e =
-      let due = runsOf firstTypes dates in
-      let d = due-clean facility line due ls (λ next rest. walkListed facility period next dates rest) r e in
-      let m = due-kept facility due (runs-other firstTypes dates refl) ls (d .0) (d .1) in
-      matches-walked facility line′ due (withoutIdle ls) (withoutIdle (d .0)) _ m ∙ listed-kept q (line + length due) (line′ + length due) dates (d .0) r (d .2)
+  later-kept q line line′ hours ls r e =
+      let due = runsOf firstTypes hours in
+      let d = due-clean facility line due ls (λ next rest. walkListed facility period next hours rest) r e in
+      let m = due-kept facility due (runs-other firstTypes hours refl) ls (d .0) (d .1) in
+      matches-walked facility line′ due (withoutIdle ls) (withoutIdle (d .0)) _ m ∙ listed-kept q (line + length due) (line′ + length due) hours (d .0) r (d .2)
 
   -- behind the 200 lines no other follows, also without the idle lines
 
@@ -263,13 +264,13 @@ module _ (facility : List ℕ) (period : Period) where
   typed-other : (t : RecordType) (l : List ℕ) → eqb (codeOf t) (codeOf So2Concentration) ≡ false → typeIs t l ≡ true → typeIs So2Concentration l ≡ false
   typed-other t l e f = type-same t So2Concentration l f ∙ e
 
-  last-other : (s : Shape) (line : ℕ) (dates ls : List (List ℕ)) (r : Report) → walkLast facility period s line dates ls ≡ Clean r → Other ls
+  last-other : (s : Shape) (line : ℕ) (hours ls : List (List ℕ)) (r : Report) → walkLast facility period s line hours ls ≡ Clean r → Other ls
   unfolding walkLast walkDue runsOf runOf Other
-  last-other s line dates [] r e = tt
-  last-other s line dates (l ∷ ls) r e = go (dueFault facility (dueOf QuarterTotals []) l) refl e
+  last-other s line hours [] r e = tt
+  last-other s line hours (l ∷ ls) r e = go (dueFault facility (dueOf QuarterTotals []) l) refl e
     where
       rest : Reading
-      rest = walkDue facility (line + 1) (runsOf (drop 1 lastTypes) dates) ls (walkEnd (record { period = period; shape = s }))
+      rest = walkDue facility (line + 1) (runsOf (drop 1 lastTypes) hours) ls (walkEnd (record { period = period; shape = s }))
 
       go : (f : ℕ) → dueFault facility (dueOf QuarterTotals []) l ≡ f → elim f [ zero ↦ rest | suc c ↦ stoppedAt (suc c) line ] ≡ Clean r →
           typeIs So2Concentration l ≡ false
@@ -280,7 +281,7 @@ module _ (facility : List ℕ) (period : Period) where
   operations-other : (ls : List (List ℕ)) (line from : ℕ) (after : After) (r : Report) →
       ((next : ℕ) (rest : List (List ℕ)) → after next rest ≡ Clean r → Other rest) →
       walkOperations facility period line from [] ls after ≡ Clean r → Other (withoutIdle ls)
-  unfolding walkOperations endOperations withoutIdle Other
+  unfolding walkOperations endOperations withoutIdle Other columns
   operations-other [] line from after r f e = tt
   operations-other (x ∷ ls) line from after r f e =
       go (typeIs Operation x) refl e (operationLine facility period from [] x) refl (λ hour. operations-other ls (line + 1) (hour + 1) after r f)
@@ -306,7 +307,7 @@ module _ (facility : List ℕ) (period : Period) where
           absurd (operating-left facility period from [] x (s .right) (s .operates) refl)
 
   -- an idle line comes right behind line 100, since a 201 line is due behind 200 lines
-  idle-other : (line : ℕ) (dates : List (List ℕ)) (x : List ℕ) (ls : List (List ℕ)) (r : Report) → walkLater facility period line dates (x ∷ ls) ≡ Clean r →
+  idle-other : (line : ℕ) (hours : List (List ℕ)) (x : List ℕ) (ls : List (List ℕ)) (r : Report) → walkLater facility period line hours (x ∷ ls) ≡ Clean r →
       typeIs Operation x ≡ true → Other (withoutIdle (x ∷ ls))
   unfolding walkLater walkListed walkDue runsOf runOf
   idle-other line [] x ls r e t = operations-other (x ∷ ls) line 0 _ r (λ next rest. last-other _ next [] rest r) e
@@ -319,42 +320,42 @@ module _ (facility : List ℕ) (period : Period) where
           absurd (false≢true (sym (type-same NoxConcentration Operation x n) ∙ t))
       go rest (suc c) k v = never-clean (suc c) line r v
 
-  later-other : (line : ℕ) (dates : List (List ℕ)) (x : List ℕ) (ls : List (List ℕ)) (r : Report) → walkLater facility period line dates (x ∷ ls) ≡ Clean r →
+  later-other : (line : ℕ) (hours : List (List ℕ)) (x : List ℕ) (ls : List (List ℕ)) (r : Report) → walkLater facility period line hours (x ∷ ls) ≡ Clean r →
       typeIs So2Concentration x ≡ false → Other (withoutIdle (x ∷ ls))
   unfolding Other withoutIdle
-  later-other line dates x ls r e t = go (idle x) refl
+  later-other line hours x ls r e t = go (idle x) refl
     where
       go : (b : Bool) → idle x ≡ b → Other (cond b (withoutIdle ls) (x ∷ withoutIdle ls))
       go false i = t
-      go true i = rw (idle-left x ls i) at (idle-other line dates x ls r e (idle-type x i))
+      go true i = rw (idle-left x ls i) at (idle-other line hours x ls r e (idle-type x i))
 
-  stops : (line from : ℕ) (dates later : List (List ℕ)) → Other later →
-      walkHours facility period line from dates later ≡ walkLater facility period line dates later
+  stops : (line from : ℕ) (hours later : List (List ℕ)) → Other later →
+      walkHours facility period line from hours later ≡ walkLater facility period line hours later
   unfolding walkHours Other
-  stops line from dates [] o = refl
-  stops line from dates (l ∷ ls) o = rw (o, walkHours)
+  stops line from hours [] o = refl
+  stops line from hours (l ∷ ls) o = rw (o, walkHours)
 
-  hours-kept : IsQuarter (period .quarter) → (ls : List (List ℕ)) (line line′ from : ℕ) (dates : List (List ℕ)) (r : Report) →
-      walkHours facility period line from dates ls ≡ Clean r → walkHours facility period line′ from dates (withoutIdle ls) ≡ Clean (keptReport r)
+  hours-kept : IsQuarter (period .quarter) → (ls : List (List ℕ)) (line line′ from : ℕ) (hours : List (List ℕ)) (r : Report) →
+      walkHours facility period line from hours ls ≡ Clean r → walkHours facility period line′ from hours (withoutIdle ls) ≡ Clean (keptReport r)
   unfolding walkHours withoutIdle Other
-  hours-kept q [] line line′ from dates r e = stops line′ from dates [] tt ∙ later-kept q line line′ dates [] r e
-  hours-kept q (x ∷ ls) line line′ from dates r e =
+  hours-kept q [] line line′ from hours r e = stops line′ from hours [] tt ∙ later-kept q line line′ hours [] r e
+  hours-kept q (x ∷ ls) line line′ from hours r e =
       go (typeIs So2Concentration x) refl e (hourLine facility period from x) refl
-      (λ hour. hours-kept q ls (line + 1) (line′ + 1) (hour + 1) (dates ++ (dateOn So2Concentration x ∷ [])) r)
+      (λ hour. hours-kept q ls (line + 1) (line′ + 1) (hour + 1) (hours ++ (x ∷ [])) r)
     where
       next : ℕ → Reading
-      next hour = walkHours facility period (line + 1) (hour + 1) (dates ++ (dateOn So2Concentration x ∷ [])) ls
+      next hour = walkHours facility period (line + 1) (hour + 1) (hours ++ (x ∷ [])) ls
 
       said : HourLine → Reading
       said h = elim h [ At hour ↦ next hour | FaultyHour number ↦ stoppedAt number line ]
 
       go : (t : Bool) → typeIs So2Concentration x ≡ t →
-          elim t [ false ↦ walkLater facility period line dates (x ∷ ls) | true ↦ said (hourLine facility period from x) ] ≡ Clean r →
+          elim t [ false ↦ walkLater facility period line hours (x ∷ ls) | true ↦ said (hourLine facility period from x) ] ≡ Clean r →
           (h : HourLine) → hourLine facility period from x ≡ h →
           ((hour : ℕ) → next hour ≡ Clean r →
-          walkHours facility period (line′ + 1) (hour + 1) (dates ++ (dateOn So2Concentration x ∷ [])) (withoutIdle ls) ≡ Clean (keptReport r)) →
-          walkHours facility period line′ from dates (withoutIdle (x ∷ ls)) ≡ Clean (keptReport r)
-      go false t v h g ih = stops line′ from dates (withoutIdle (x ∷ ls)) (later-other line dates x ls r v t) ∙ later-kept q line line′ dates (x ∷ ls) r v
+          walkHours facility period (line′ + 1) (hour + 1) (hours ++ (x ∷ [])) (withoutIdle ls) ≡ Clean (keptReport r)) →
+          walkHours facility period line′ from hours (withoutIdle (x ∷ ls)) ≡ Clean (keptReport r)
+      go false t v h g ih = stops line′ from hours (withoutIdle (x ∷ ls)) (later-other line hours x ls r v t) ∙ later-kept q line line′ hours (x ∷ ls) r v
       go true t v (FaultyHour number) g ih = never-clean number line r (rw g at v)
       go true t v (At hour) g ih =
           rw (kept-line x ls (typed-idle So2Concentration (λ e. kept-other So2Concentration refl e) x t), t, walkHours, g) (ih hour (rw g at v))

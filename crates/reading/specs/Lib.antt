@@ -1,6 +1,7 @@
 pub mod Reading
 pub mod Recorded
 pub mod Places
+pub mod HourLineLaws
 pub mod Passages
 pub mod CleanLaws
 pub mod RunLaws

@@ -5,9 +5,10 @@ use mathlib.Core.List.{List, [], _∷_}
 use mathlib.Core.Bool.{Bool, true, false}
 use native.Mathlib.Omega.{arith}
 use native.Mathlib.Nat.{not-suc-le-zero}
-use lib.ListN.{length, take, drop, getD}
+use lib.ListN.{length, take, drop}
 use borrow.Author.Tests.{not-false}
 use Rattle.calendar.specs.Calendar.{mostHours, IsQuarter}
+use Rattle.columns.specs.Columns.{columns}
 use Rattle.layout.specs.Layout.{lengthOf}
 use Rattle.layout.specs.declared.RecordType.the-variants.{Operation}
 use Rattle.lines.specs.Lines.{lines, last}
@@ -17,7 +18,7 @@ use Rattle.lines.specs.OperationLaws.{Said, said-operating, said-idle, operatio
 use Rattle.lines.specs.declared.Period.{Period}
 use Rattle.lines.specs.declared.operation.OperationLine.{OperationLine}
 use Rattle.lines.specs.declared.operation.OperationLine.the-variants.{Operating, Idle, Faulty}
-use Rattle.reading.specs.Reading.{stoppedAt, After, endOperations, walkOperations}
+use Rattle.reading.specs.Reading.{stoppedAt, After, endOperations, walkOperations, nextDate}
 use Rattle.reading.specs.Recorded.{idle}
 use Rattle.reading.specs.RecordedLaws.{operation-idle}
 use Rattle.reading.specs.Places.{linesAt, numbered, having}
@@ -26,8 +27,9 @@ use Rattle.reading.specs.declared.Report.{Report}
 use Rattle.reading.specs.declared.Reading.{Reading}
 use Rattle.reading.specs.declared.Reading.the-variants.{Clean}
 
--- a date that is there is one of those left
-pub one-less : (dates : List (List ℕ)) → (getD dates 0 [] ≡ [] → ⊥) → suc (length (drop 1 dates)) ≡ length dates
+-- a date that is there is that of an hour which is left
+pub one-less : (hours : List (List ℕ)) → (nextDate hours ≡ [] → ⊥) → suc (length (drop 1 hours)) ≡ length hours
+unfolding columns
 one-less [] n = absurd (n refl)
 one-less (d ∷ ds) n = refl
 
@@ -44,18 +46,18 @@ module _ (file : List ℕ) (ends : last file ≡ 10) (facility : List ℕ) (peri
   abbrev size : ℕ
   size = lengthOf Operation + 1
 
-  -- the 300 lines from `at` on, the first with this number and not before the hour `from`; operating hours of these dates are among them
-  pub record ListedRight (at line from : ℕ) (dates : List (List ℕ)) : Type 0 where
+  -- the 300 lines from `at` on, the first with this number and not before the hour `from`; the operating hours of these 200 lines are among them
+  pub record ListedRight (at line from : ℕ) (hours : List (List ℕ)) : Type 0 where
     pub count : ℕ
     pub most : from + count ≤ mostHours
     pub room : at + (lengthOf Operation + 1) * count ≤ length file
     pub each : (j : ℕ) → j < count → LineRight file ends facility Operation (at + (lengthOf Operation + 1) * j)
-    pub operating : (number : ℕ) → length (having operates (numbered number (linesAt file Operation at count))) ≡ length dates
+    pub operating : (number : ℕ) → length (having operates (numbered number (linesAt file Operation at count))) ≡ length hours
     pub next : after (line + count) (lines (drop (at + (lengthOf Operation + 1) * count) file)) ≡ Clean r
 
   -- no operating hour is left
-  listed-end : (number line at from : ℕ) (dates ls : List (List ℕ)) → lines (drop at file) ≡ ls → at ≤ length file → from ≤ mostHours →
-      endOperations number line dates ls after ≡ Clean r → ListedRight at line from dates
+  listed-end : (number line at from : ℕ) (hours ls : List (List ℕ)) → lines (drop at file) ≡ ls → at ≤ length file → from ≤ mostHours →
+      endOperations number line hours ls after ≡ Clean r → ListedRight at line from hours
   unfolding endOperations linesAt numbered having
   listed-end number line at from (d ∷ ds) ls e b f w = never-clean number line r w
   listed-end number line at from [] ls e b f w =
@@ -71,12 +73,12 @@ module _ (file : List ℕ) (ends : last file ≡ 10) (facility : List ℕ) (peri
       }
 
   -- one line more in front, which operates or not
-  module _ (at line from hour : ℕ) (x : List ℕ) (ls dates : List (List ℕ)) (e : lines (drop at file) ≡ x ∷ ls) (date : List ℕ) where
+  module _ (at line from hour : ℕ) (x : List ℕ) (ls hours : List (List ℕ)) (e : lines (drop at file) ≡ x ∷ ls) (date : List ℕ) where
     listed-more : (b : Bool) (left : List (List ℕ)) → Said facility period from date x hour b →
-        (b ≡ false → left ≡ dates) → (b ≡ true → suc (length left) ≡ length dates) →
+        (b ≡ false → left ≡ hours) → (b ≡ true → suc (length left) ≡ length hours) →
         (lines (drop (at + (lengthOf Operation + 1)) file) ≡ ls → at + (lengthOf Operation + 1) ≤ length file → hour + 1 ≤ mostHours →
         ListedRight (at + (lengthOf Operation + 1)) (line + 1) (hour + 1) left) →
-        ListedRight at line from dates
+        ListedRight at line from hours
     unfolding linesAt
     listed-more b left s idles operated ih =
         let sh = operation-shape facility period from date x (s .right) in
@@ -94,41 +96,41 @@ module _ (file : List ℕ) (ends : last file ≡ 10) (facility : List ℕ) (peri
           room = rw z at (h .room);
           each = run-more file ends facility Operation at (h .count) (l .0) (h .each);
           operating = λ number.
-              operating-more (take (lengthOf Operation) (drop at file)) (linesAt file Operation (at + size) (h .count)) number (length left) (length dates) b
+              operating-more (take (lengthOf Operation) (drop at file)) (linesAt file Operation (at + size) (h .count)) number (length left) (length hours) b
               (ap operates there ∙ s .operates) (h .operating (suc number)) (λ i. ap length (idles i)) operated;
           next = rw (y, z) at (h .next);
         }
 
-  pub listed-right : (ls : List (List ℕ)) (line from at : ℕ) (dates : List (List ℕ)) → lines (drop at file) ≡ ls → at ≤ length file → from ≤ mostHours →
-      walkOperations facility period line from dates ls after ≡ Clean r → ListedRight at line from dates
+  pub listed-right : (ls : List (List ℕ)) (line from at : ℕ) (hours : List (List ℕ)) → lines (drop at file) ≡ ls → at ≤ length file → from ≤ mostHours →
+      walkOperations facility period line from hours ls after ≡ Clean r → ListedRight at line from hours
   unfolding walkOperations
-  listed-right [] line from at dates e b f w = listed-end 10 line at from dates [] e b f w
-  listed-right (x ∷ ls) line from at dates e b f w =
-      go (typeIs Operation x) w (operationLine facility period from (getD dates 0 []) x) refl
+  listed-right [] line from at hours e b f w = listed-end 10 line at from hours [] e b f w
+  listed-right (x ∷ ls) line from at hours e b f w =
+      go (typeIs Operation x) w (operationLine facility period from (nextDate hours) x) refl
       (λ hour left a c d g. listed-right ls (line + 1) (hour + 1) (at + (lengthOf Operation + 1)) left a c d g)
     where
       step : OperationLine → Reading
       step o = elim o [
-        | Operating hour ↦ walkOperations facility period (line + 1) (hour + 1) (drop 1 dates) ls after
-        | Idle hour ↦ walkOperations facility period (line + 1) (hour + 1) dates ls after
+        | Operating hour ↦ walkOperations facility period (line + 1) (hour + 1) (drop 1 hours) ls after
+        | Idle hour ↦ walkOperations facility period (line + 1) (hour + 1) hours ls after
         | Faulty number ↦ stoppedAt number line
       ]
 
       go : (t : Bool) →
-          elim t [ false ↦ endOperations 2 line dates (x ∷ ls) after | true ↦ step (operationLine facility period from (getD dates 0 []) x) ] ≡ Clean r →
-          (o : OperationLine) → operationLine facility period from (getD dates 0 []) x ≡ o →
+          elim t [ false ↦ endOperations 2 line hours (x ∷ ls) after | true ↦ step (operationLine facility period from (nextDate hours) x) ] ≡ Clean r →
+          (o : OperationLine) → operationLine facility period from (nextDate hours) x ≡ o →
           ((hour : ℕ) (left : List (List ℕ)) → lines (drop (at + (lengthOf Operation + 1)) file) ≡ ls → at + (lengthOf Operation + 1) ≤ length file →
           hour + 1 ≤ mostHours → walkOperations facility period (line + 1) (hour + 1) left ls after ≡ Clean r →
           ListedRight (at + (lengthOf Operation + 1)) (line + 1) (hour + 1) left) →
-          ListedRight at line from dates
-      go false v o g ih = listed-end 2 line at from dates (x ∷ ls) e b f v
+          ListedRight at line from hours
+      go false v o g ih = listed-end 2 line at from hours (x ∷ ls) e b f v
       go true v (Faulty number) g ih = never-clean number line r (rw g at v)
       go true v (Idle hour) g ih =
-          listed-more at line from hour x ls dates e (getD dates 0 []) false dates (said-idle facility period from (getD dates 0 []) x hour g)
-          (λ z. refl) (λ z. absurd (let y : _≡_ {A = ℕ} 0 1 = cc in omega arith)) (λ a c d. ih hour dates a c d (rw g at v))
+          listed-more at line from hour x ls hours e (nextDate hours) false hours (said-idle facility period from (nextDate hours) x hour g)
+          (λ z. refl) (λ z. absurd (let y : _≡_ {A = ℕ} 0 1 = cc in omega arith)) (λ a c d. ih hour hours a c d (rw g at v))
       go true v (Operating hour) g ih =
-          let s = said-operating facility period from (getD dates 0 []) x hour g in
-          listed-more at line from hour x ls dates e (getD dates 0 []) true (drop 1 dates) s
+          let s = said-operating facility period from (nextDate hours) x hour g in
+          listed-more at line from hour x ls hours e (nextDate hours) true (drop 1 hours) s
           (λ z. absurd (let y : _≡_ {A = ℕ} 0 1 = cc in omega arith))
-          (λ z. one-less dates (operating-left facility period from (getD dates 0 []) x (s .right) (s .operates)))
-          (λ a c d. ih hour (drop 1 dates) a c d (rw g at v))
+          (λ z. one-less hours (operating-left facility period from (nextDate hours) x (s .right) (s .operates)))
+          (λ a c d. ih hour (drop 1 hours) a c d (rw g at v))

@@ -10,7 +10,7 @@ use Rattle.layout.specs.Layout.{order}
 use Rattle.lines.specs.Lines.{lines}
 use Rattle.lines.specs.declared.Period.{Period}
 use Rattle.reading.specs.Reading.{runsOf, After, walkDue, walkOperations}
-use Rattle.reading.specs.Places.{facilityOf, datesIn}
+use Rattle.reading.specs.Places.{facilityOf, hourLinesIn}
 use Rattle.reading.specs.declared.walk.Cursor.{Cursor}
 use Rattle.reading.specs.declared.walk.Passage.{Passage}
 use Rattle.reading.specs.declared.walk.Passage.the-variants.{On, Stopped}
@@ -44,7 +44,8 @@ HereOn file (Stopped r) = Unit {0}
 -- the lines of the types from one place of the order to another
 pub record PassesRuns (file : List ℕ) (n first end : ℕ) (start : Cursor) (r : Passage) : Type 0 where
   pub reads : (after : After) →
-      led file r after ≡ walkDue (facilityOf file) (start .line) (runsOf (drop first (take end order)) (datesIn file n)) (lines (drop (start .at) file)) after
+      led file r after
+      ≡ walkDue (facilityOf file) (start .line) (runsOf (drop first (take end order)) (hourLinesIn file n)) (lines (drop (start .at) file)) after
   pub here : HereOn file r
 
 -- of the 300 lines there are no more than hours of a quarter
@@ -54,6 +55,6 @@ FewOn start (Stopped r) = Unit {0}
 
 pub record PassesOperations (file : List ℕ) (period : Period) (n : ℕ) (start : Cursor) (r : Passage) : Type 0 where
   pub reads : (after : After) →
-      led file r after ≡ walkOperations (facilityOf file) period (start .line) 0 (datesIn file n) (lines (drop (start .at) file)) after
+      led file r after ≡ walkOperations (facilityOf file) period (start .line) 0 (hourLinesIn file n) (lines (drop (start .at) file)) after
   pub here : HereOn file r
   pub few : FewOn start r

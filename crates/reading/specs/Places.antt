@@ -1,13 +1,12 @@
--- Where the reading of a file finds what it has read before: the facility line, and the dates of the 200 lines so far. What the
--- functions that read lines may rely on stands here too.
+-- Where the reading of a file finds what it has read before: the facility line, and the 200 lines so far. What the functions that
+-- read lines may rely on stands here too.
 use Prim.Native.Nat.{ℕ, zero, suc, _+_, _-_, _≤_, _<_}
 use mathlib.Core.Path.{_≡_}
 use mathlib.Core.Bool.{Bool, true, false, cond}
 use mathlib.Core.List.{List, [], _∷_, _++_}
 use lib.ListN.{length, take, drop}
 use Rattle.calendar.specs.Calendar.{mostHours}
-use Rattle.columns.specs.Columns.{columns}
-use Rattle.layout.specs.Layout.{recordOf, lengthOf, dateColumn, dateWidth, countOf, lineOf, offsetOf, reportLength, Held, shape}
+use Rattle.layout.specs.Layout.{recordOf, lengthOf, countOf, lineOf, offsetOf, reportLength, Held, shape}
 use Rattle.layout.specs.declared.RecordType.{RecordType}
 use Rattle.layout.specs.declared.RecordType.the-variants.{Facility, So2Concentration, Operation}
 use Rattle.layout.specs.declared.Run.{Run}
@@ -24,28 +23,28 @@ facilityOf file = take (lengthOf Facility) file
 abbrev pub hourStart : ℕ → ℕ
 hourStart r = offsetOf (shape r) So2Concentration r
 
--- its date and hour
-abbrev pub dateIn : List ℕ → ℕ → List ℕ
-dateIn file r = columns (hourStart r + dateColumn So2Concentration) dateWidth file
+-- that line
+abbrev pub hourLineIn : List ℕ → ℕ → List ℕ
+hourLineIn file r = take (lengthOf So2Concentration) (drop (hourStart r) file)
 
 -- of the first n
-unfoldable pub datesIn : List ℕ → ℕ → List (List ℕ)
-datesIn file zero = []
-datesIn file (suc n) = datesIn file n ++ (dateIn file n ∷ [])
+unfoldable pub hourLinesIn : List ℕ → ℕ → List (List ℕ)
+hourLinesIn file zero = []
+hourLinesIn file (suc n) = hourLinesIn file n ++ (hourLineIn file n ∷ [])
 
 -- n 200 lines are read
 pub record Counted (file : List ℕ) (n : ℕ) : Type 0 where
   pub most : n ≤ mostHours
   pub room : hourStart n ≤ length file + 1
 
--- the date and hour that the line of rank k of a type must have
-abbrev pub dateFor : Run → List ℕ → ℕ → List ℕ
-dateFor Once file k = []
-dateFor Hourly file k = dateIn file k
-dateFor Listed file k = dateIn file k
+-- the 200 line by which the line of rank k of a type is judged
+abbrev pub hourFor : Run → List ℕ → ℕ → List ℕ
+hourFor Once file k = []
+hourFor Hourly file k = hourLineIn file k
+hourFor Listed file k = hourLineIn file k
 
-unfoldable pub dateDue : List ℕ → RecordType → ℕ → List ℕ
-dateDue file t k = dateFor (recordOf t .run) file k
+unfoldable pub hourDue : List ℕ → RecordType → ℕ → List ℕ
+hourDue file t k = hourFor (recordOf t .run) file k
 
 -- so many lines of a type from this place of the file on
 unfoldable pub linesAt : List ℕ → RecordType → (at : ℕ) → ℕ → List (List ℕ)

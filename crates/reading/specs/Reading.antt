@@ -31,18 +31,18 @@ firstTypes = typesBetween So2Concentration Operation
 abbrev pub lastTypes : List RecordType
 lastTypes = later Operation
 
--- one line for each date, or one line that has none
-abbrev pub datesOf : Run → List (List ℕ) → List (List ℕ)
-datesOf Once dates = [] ∷ []
-datesOf Hourly dates = dates
-datesOf Listed dates = dates
+-- the 200 lines by which the lines of a run are judged: that of each rank, or none for a line without date
+abbrev pub hoursDue : Run → List (List ℕ) → List (List ℕ)
+hoursDue Once hours = [] ∷ []
+hoursDue Hourly hours = hours
+hoursDue Listed hours = hours
 
 unfoldable pub runOf : RecordType → List (List ℕ) → List Due
-runOf t dates = map (dueOf t) (datesOf (recordOf t .run) dates)
+runOf t hours = map (dueOf t) (hoursDue (recordOf t .run) hours)
 
 unfoldable pub runsOf : List RecordType → List (List ℕ) → List Due
-runsOf [] dates = []
-runsOf (t ∷ ts) dates = runOf t dates ++ runsOf ts dates
+runsOf [] hours = []
+runsOf (t ∷ ts) hours = runOf t hours ++ runsOf ts hours
 
 -- what follows some lines: the number of the next, and the lines from it on
 abbrev pub After : Type 0
@@ -55,21 +55,25 @@ walkDue facility line (d ∷ ds) [] after = stoppedAt 10 line
 walkDue facility line (d ∷ ds) (l ∷ ls) after =
     elim (dueFault facility d l) [ zero ↦ walkDue facility (line + 1) ds ls after | suc c ↦ stoppedAt (suc c) line ]
 
--- what follows the last 300 line, of operating hours that are due with these dates: none may be left
+-- what follows the last 300 line, of operating hours that are due by these 200 lines: none may be left
 unfoldable pub endOperations : ℕ → ℕ → List (List ℕ) → List (List ℕ) → After → Reading
 endOperations number line [] ls after = after line ls
 endOperations number line (d ∷ ds) ls after = stoppedAt number line
 
--- the 300 lines: operating hours are due with these dates, and idle ones may stand among them; the next hour is at least `from`
+-- the date of the first operating hour that is due; none where none is left
+abbrev pub nextDate : List (List ℕ) → List ℕ
+nextDate hours = dateOn So2Concentration (getD hours 0 [])
+
+-- the 300 lines: operating hours are due by these 200 lines, and idle ones may stand among them; the next hour is at least `from`
 unfoldable pub walkOperations : List ℕ → Period → ℕ → ℕ → List (List ℕ) → List (List ℕ) → After → Reading
-walkOperations facility period line from dates [] after = endOperations 10 line dates [] after
-walkOperations facility period line from dates (l ∷ ls) after =
+walkOperations facility period line from hours [] after = endOperations 10 line hours [] after
+walkOperations facility period line from hours (l ∷ ls) after =
     elim (typeIs Operation l) [
-      | false ↦ endOperations 2 line dates (l ∷ ls) after
+      | false ↦ endOperations 2 line hours (l ∷ ls) after
       | true ↦
-          elim (operationLine facility period from (getD dates 0 []) l) [
-            | Operating hour ↦ walkOperations facility period (line + 1) (hour + 1) (drop 1 dates) ls after
-            | Idle hour ↦ walkOperations facility period (line + 1) (hour + 1) dates ls after
+          elim (operationLine facility period from (nextDate hours) l) [
+            | Operating hour ↦ walkOperations facility period (line + 1) (hour + 1) (drop 1 hours) ls after
+            | Idle hour ↦ walkOperations facility period (line + 1) (hour + 1) hours ls after
             | FaultyOperation number ↦ stoppedAt number line
           ]
     ]
@@ -81,27 +85,27 @@ walkEnd report line (l ∷ ls) = stoppedAt 2 line
 
 -- after the last 300 line of a report of this shape
 unfoldable pub walkLast : List ℕ → Period → Shape → ℕ → List (List ℕ) → List (List ℕ) → Reading
-walkLast facility period s line dates ls = walkDue facility line (runsOf lastTypes dates) ls (walkEnd (record { period = period; shape = s }))
+walkLast facility period s line hours ls = walkDue facility line (runsOf lastTypes hours) ls (walkEnd (record { period = period; shape = s }))
 
 -- after the last 220 line
 unfoldable pub walkListed : List ℕ → Period → ℕ → List (List ℕ) → List (List ℕ) → Reading
-walkListed facility period line dates ls =
-    walkOperations facility period line 0 dates ls (λ next rest. walkLast facility period (shapeWith (length dates) (next - line)) next dates rest)
+walkListed facility period line hours ls =
+    walkOperations facility period line 0 hours ls (λ next rest. walkLast facility period (shapeWith (length hours) (next - line)) next hours rest)
 
 -- after the last 200 line
 unfoldable pub walkLater : List ℕ → Period → ℕ → List (List ℕ) → List (List ℕ) → Reading
-walkLater facility period line dates ls =
-    walkDue facility line (runsOf firstTypes dates) ls (λ next rest. walkListed facility period next dates rest)
+walkLater facility period line hours ls =
+    walkDue facility line (runsOf firstTypes hours) ls (λ next rest. walkListed facility period next hours rest)
 
--- the lines from `line` on, after 200 lines of these dates; the next hour of the quarter is at least `from`
+-- the lines from `line` on, after these 200 lines; the next hour of the quarter is at least `from`
 unfoldable pub walkHours : List ℕ → Period → ℕ → ℕ → List (List ℕ) → List (List ℕ) → Reading
-walkHours facility period line from dates [] = walkLater facility period line dates []
-walkHours facility period line from dates (l ∷ ls) =
+walkHours facility period line from hours [] = walkLater facility period line hours []
+walkHours facility period line from hours (l ∷ ls) =
     elim (typeIs So2Concentration l) [
-      | false ↦ walkLater facility period line dates (l ∷ ls)
+      | false ↦ walkLater facility period line hours (l ∷ ls)
       | true ↦
           elim (hourLine facility period from l) [
-            | At hour ↦ walkHours facility period (line + 1) (hour + 1) (dates ++ (dateOn So2Concentration l ∷ [])) ls
+            | At hour ↦ walkHours facility period (line + 1) (hour + 1) (hours ++ (l ∷ [])) ls
             | FaultyHour number ↦ stoppedAt number line
           ]
     ]

@@ -5,7 +5,7 @@ use mathlib.Core.List.{List, [], _∷_, _++_, map}
 use mathlib.Core.Bool.{Bool, true, false, not}
 use native.Mathlib.Omega.{arith}
 use lib.Dec.{eqb}
-use lib.ListN.{length, drop, getD, length-append}
+use lib.ListN.{length, drop, length-append}
 use lib.Seq.{append-snoc, getD-at}
 use borrow.Author.Tests.{eqb-false, not-true}
 use Rattle.exact.specs.Logic.{both, All}
@@ -15,7 +15,7 @@ use Rattle.layout.specs.declared.RecordType.{RecordType}
 use Rattle.layout.specs.declared.RecordType.the-variants.{So2Concentration, Operation}
 use Rattle.layout.specs.declared.Shape.{Shape}
 use Rattle.lines.specs.Lines.{lines, last, HasLine, textOf}
-use Rattle.lines.specs.LineFaults.{typeIs, periodOn, facilityLine, dateOn, hourLine, Due, dueOf, dueFault, operationLine}
+use Rattle.lines.specs.LineFaults.{typeIs, periodOn, facilityLine, hourLine, Due, dueOf, dueFault, operationLine}
 use Rattle.lines.specs.FaultLaws.{facility-said}
 use Rattle.lines.specs.Shows.{Shows, ofLineChecks}
 use Rattle.lines.specs.Shows.Shows.{otherType}
@@ -27,8 +27,8 @@ use Rattle.lines.specs.declared.HourLine.{HourLine}
 use Rattle.lines.specs.declared.HourLine.the-variants.{At, Faulty as FaultyHour}
 use Rattle.lines.specs.declared.operation.OperationLine.{OperationLine}
 use Rattle.lines.specs.declared.operation.OperationLine.the-variants.{Operating, Idle, Faulty as FaultyOperation}
-use Rattle.reading.specs.Reading.{stoppedAt, firstTypes, lastTypes, datesOf, runOf, runsOf, After, walkDue, endOperations, walkOperations}
-use Rattle.reading.specs.Reading.{walkEnd, walkLast, walkListed, walkLater, walkHours, walk, readOf}
+use Rattle.reading.specs.Reading.{stoppedAt, firstTypes, lastTypes, hoursDue, runOf, runsOf, After, walkDue, endOperations, walkOperations}
+use Rattle.reading.specs.Reading.{walkEnd, walkLast, walkListed, walkLater, walkHours, walk, readOf, nextDate}
 use Rattle.reading.specs.Refuses.{Refuses}
 use Rattle.reading.specs.Refuses.Refuses.{unended, faulty, missing}
 use Rattle.reading.specs.declared.Report.{Report}
@@ -48,18 +48,18 @@ ByRow file (Clean r) = Unit {0}
 ByRow file (Refused r) = Refuses file (r .number) (r .line)
 
 -- the lines that are due in front of the 300 lines and behind them are no 300 lines
-type-other : (t : RecordType) (dates : List (List ℕ)) (rest : List Due) → (t ≡ Operation → ⊥) → All (λ (d : Due). d .type ≡ Operation → ⊥) rest →
-    All (λ (d : Due). d .type ≡ Operation → ⊥) (map (dueOf t) dates ++ rest)
+type-other : (t : RecordType) (hours : List (List ℕ)) (rest : List Due) → (t ≡ Operation → ⊥) → All (λ (d : Due). d .type ≡ Operation → ⊥) rest →
+    All (λ (d : Due). d .type ≡ Operation → ⊥) (map (dueOf t) hours ++ rest)
 type-other t [] rest o a = a
-type-other t (date ∷ dates) rest o a = (o, type-other t dates rest o a)
+type-other t (date ∷ hours) rest o a = (o, type-other t hours rest o a)
 
-pub runs-other : (ts : List RecordType) (dates : List (List ℕ)) → absent (codeOf Operation) ts ≡ true →
-    All (λ (d : Due). d .type ≡ Operation → ⊥) (runsOf ts dates)
+pub runs-other : (ts : List RecordType) (hours : List (List ℕ)) → absent (codeOf Operation) ts ≡ true →
+    All (λ (d : Due). d .type ≡ Operation → ⊥) (runsOf ts hours)
 unfolding runsOf runOf
-runs-other [] dates n = tt
-runs-other (t ∷ ts) dates n =
+runs-other [] hours n = tt
+runs-other (t ∷ ts) hours n =
     let b = both (not (eqb (codeOf t) (codeOf Operation))) (absent (codeOf Operation) ts) n in
-    type-other t (datesOf (recordOf t .run) dates) (runsOf ts dates) (λ e. eqb-false _ _ (not-true _ (b .0)) (ap codeOf e)) (runs-other ts dates (b .1))
+    type-other t (hoursDue (recordOf t .run) hours) (runsOf ts hours) (λ e. eqb-false _ _ (not-true _ (b .0)) (ap codeOf e)) (runs-other ts hours (b .1))
 
 module _ (file : List ℕ) where
   from-start : LinesFrom file 1 (lines file)
@@ -114,64 +114,64 @@ module _ (file facility : List ℕ) (first : textOf file 1 ≡ facility) where
   end-row report line [] w = tt
   end-row report line (l ∷ ls) w = next-row line l ls w 2 otherType
 
-  last-row : (period : Period) (s : Shape) (dates : List (List ℕ)) → Follows (λ line. walkLast facility period s line dates)
+  last-row : (period : Period) (s : Shape) (hours : List (List ℕ)) → Follows (λ line. walkLast facility period s line hours)
   unfolding walkLast
-  last-row period s dates line ls w = due-row (walkEnd _) (end-row _) line (runsOf lastTypes dates) (runs-other lastTypes dates refl) ls w
+  last-row period s hours line ls w = due-row (walkEnd _) (end-row _) line (runsOf lastTypes hours) (runs-other lastTypes hours refl) ls w
 
   -- the 300 lines
 
-  over-row : (after : After) → Follows after → (number line : ℕ) (dates ls : List (List ℕ)) → LinesFrom file line ls → Refuses file number line →
-      ByRow file (endOperations number line dates ls after)
+  over-row : (after : After) → Follows after → (number line : ℕ) (hours ls : List (List ℕ)) → LinesFrom file line ls → Refuses file number line →
+      ByRow file (endOperations number line hours ls after)
   unfolding endOperations
   over-row after follows number line [] ls w r = follows line ls w
   over-row after follows number line (d ∷ ds) ls w r = r
 
-  operations-row : (after : After) → Follows after → (ls : List (List ℕ)) (line from : ℕ) (dates : List (List ℕ)) → LinesFrom file line ls →
-      ByRow file (walkOperations facility (periodOn facility) line from dates ls after)
+  operations-row : (after : After) → Follows after → (ls : List (List ℕ)) (line from : ℕ) (hours : List (List ℕ)) → LinesFrom file line ls →
+      ByRow file (walkOperations facility (periodOn facility) line from hours ls after)
   unfolding walkOperations
-  operations-row after follows [] line from dates w = over-row after follows 10 line dates [] w (rw (from-end file line w) missing)
-  operations-row after follows (l ∷ ls) line from dates w =
+  operations-row after follows [] line from hours w = over-row after follows 10 line hours [] w (rw (from-end file line w) missing)
+  operations-row after follows (l ∷ ls) line from hours w =
       either (typeIs Operation l)
-      (go (operationLine facility (periodOn facility) from (getD dates 0 []) l) refl
+      (go (operationLine facility (periodOn facility) from (nextDate hours) l) refl
       (λ hour left. operations-row after follows ls (line + 1) (hour + 1) left (from-next file line l ls w)))
     where
       next : ℕ → List (List ℕ) → Reading
       next hour left = walkOperations facility (periodOn facility) (line + 1) (hour + 1) left ls after
 
       said : OperationLine → Reading
-      said o = elim o [ Operating hour ↦ next hour (drop 1 dates) | Idle hour ↦ next hour dates | FaultyOperation number ↦ stoppedAt number line ]
+      said o = elim o [ Operating hour ↦ next hour (drop 1 hours) | Idle hour ↦ next hour hours | FaultyOperation number ↦ stoppedAt number line ]
 
-      go : (o : OperationLine) → operationLine facility (periodOn facility) from (getD dates 0 []) l ≡ o →
+      go : (o : OperationLine) → operationLine facility (periodOn facility) from (nextDate hours) l ≡ o →
           ((hour : ℕ) (left : List (List ℕ)) → ByRow file (next hour left)) → ByRow file (said o)
-      go (Operating hour) e n = n hour (drop 1 dates)
-      go (Idle hour) e n = n hour dates
-      go (FaultyOperation number) e n = next-row line l ls w number (operation-shows facility from (getD dates 0 []) l number e)
+      go (Operating hour) e n = n hour (drop 1 hours)
+      go (Idle hour) e n = n hour hours
+      go (FaultyOperation number) e n = next-row line l ls w number (operation-shows facility from (nextDate hours) l number e)
 
-      either : (t : Bool) → ByRow file (said (operationLine facility (periodOn facility) from (getD dates 0 []) l)) →
+      either : (t : Bool) → ByRow file (said (operationLine facility (periodOn facility) from (nextDate hours) l)) →
           ByRow file (elim t [
-            | false ↦ endOperations 2 line dates (l ∷ ls) after
-            | true ↦ said (operationLine facility (periodOn facility) from (getD dates 0 []) l)
+            | false ↦ endOperations 2 line hours (l ∷ ls) after
+            | true ↦ said (operationLine facility (periodOn facility) from (nextDate hours) l)
           ])
-      either false n = over-row after follows 2 line dates (l ∷ ls) w (next-row line l ls w 2 otherType)
+      either false n = over-row after follows 2 line hours (l ∷ ls) w (next-row line l ls w 2 otherType)
       either true n = n
 
-  later-row : (line : ℕ) (dates ls : List (List ℕ)) → LinesFrom file line ls → ByRow file (walkLater facility (periodOn facility) line dates ls)
+  later-row : (line : ℕ) (hours ls : List (List ℕ)) → LinesFrom file line ls → ByRow file (walkLater facility (periodOn facility) line hours ls)
   unfolding walkLater walkListed
-  later-row line dates ls w =
-      due-row _ (λ next rest v. operations-row _ (λ end. last-row (periodOn facility) (shapeWith (length dates) (end - next)) dates end) rest next 0 dates v)
-      line (runsOf firstTypes dates) (runs-other firstTypes dates refl) ls w
+  later-row line hours ls w =
+      due-row _ (λ next rest v. operations-row _ (λ end. last-row (periodOn facility) (shapeWith (length hours) (end - next)) hours end) rest next 0 hours v)
+      line (runsOf firstTypes hours) (runs-other firstTypes hours refl) ls w
 
-  hours-row : (ls : List (List ℕ)) (line from : ℕ) (dates : List (List ℕ)) → LinesFrom file line ls →
-      ByRow file (walkHours facility (periodOn facility) line from dates ls)
+  hours-row : (ls : List (List ℕ)) (line from : ℕ) (hours : List (List ℕ)) → LinesFrom file line ls →
+      ByRow file (walkHours facility (periodOn facility) line from hours ls)
   unfolding walkHours
-  hours-row [] line from dates w = later-row line dates [] w
-  hours-row (l ∷ ls) line from dates w =
+  hours-row [] line from hours w = later-row line hours [] w
+  hours-row (l ∷ ls) line from hours w =
       either (typeIs So2Concentration l) _
       (go (hourLine facility (periodOn facility) from l) refl
-      (λ hour. hours-row ls (line + 1) (hour + 1) (dates ++ (dateOn So2Concentration l ∷ [])) (from-next file line l ls w)))
+      (λ hour. hours-row ls (line + 1) (hour + 1) (hours ++ (l ∷ [])) (from-next file line l ls w)))
     where
       next : ℕ → Reading
-      next hour = walkHours facility (periodOn facility) (line + 1) (hour + 1) (dates ++ (dateOn So2Concentration l ∷ [])) ls
+      next hour = walkHours facility (periodOn facility) (line + 1) (hour + 1) (hours ++ (l ∷ [])) ls
 
       go : (h : HourLine) → hourLine facility (periodOn facility) from l ≡ h → ((hour : ℕ) → ByRow file (next hour)) →
           ByRow file (elim h [ At hour ↦ next hour | FaultyHour number ↦ stoppedAt number line ])
@@ -179,10 +179,10 @@ module _ (file facility : List ℕ) (first : textOf file 1 ≡ facility) where
       go (FaultyHour number) e n = next-row line l ls w number (hour-shows facility from l number e)
 
       later : Reading
-      later = walkLater facility (periodOn facility) line dates (l ∷ ls)
+      later = walkLater facility (periodOn facility) line hours (l ∷ ls)
 
       either : (t : Bool) (r : Reading) → ByRow file r → ByRow file (elim t [ false ↦ later | true ↦ r ])
-      either false r n = later-row line dates (l ∷ ls) w
+      either false r n = later-row line hours (l ∷ ls) w
       either true r n = n
 
 walk-row : (file : List ℕ) (ls : List (List ℕ)) → LinesFrom file 1 ls → ByRow file (walk ls)

@@ -11,12 +11,12 @@ use lines::operation::OperationLine;
 ghost use mathlib.Core.Path.{_≡_};
 ghost use mathlib.Core.List.{[]};
 ghost use Prim.Native.Nat.{_+_, _≤_, _<_};
-ghost use lib.ListN.{length, drop, getD};
+ghost use lib.ListN.{length, drop};
 ghost use Rattle.calendar.specs.Calendar.{IsQuarter};
 ghost use Rattle.layout.specs.Layout.{lengthOf, countOf, order, shape};
 ghost use Rattle.lines.specs.Lines.{lines};
-ghost use Rattle.reading.specs.Reading.{stoppedAt, walkLast, walkListed, walkLater, walkHours};
-ghost use Rattle.reading.specs.Places.{facilityOf, hourStart, dateIn, datesIn, Counted, dateDue};
+ghost use Rattle.reading.specs.Reading.{stoppedAt, walkLast, walkListed, walkLater, walkHours, nextDate};
+ghost use Rattle.reading.specs.Places.{facilityOf, hourStart, hourLineIn, hourLinesIn, Counted, hourDue};
 ghost use Rattle.reading.specs.Passages.{onAt, haltedAt, endPassage, Here, PassesRuns, PassesOperations};
 
 pub fn stopped(number: u64, line: usize) -> Reading
@@ -49,38 +49,36 @@ fn halted(number: u64, line: usize) -> Passage
     Passage::Stopped(Refusal { number, line })
 }
 
-// Where the date of the first 200 line starts, in bytes.
-const FIRST_DATE: usize = layout::FACILITY_BYTES + layout::SO2_DATE - 1;
-
-// The date of the 200 line of rank k.
-fn hour_date(file: &[u8], n: usize, k: usize) -> &[u8]
+// The 200 line of rank k.
+fn hour_text(file: &[u8], n: usize, k: usize) -> &[u8]
     requires { ⌜ Counted (now file) n × (k < n) ⌝ }
-    ensures { λ r. ⌜ now r ≡ dateIn (now (file .entry)) k ⌝ }
+    ensures { λ r. ⌜ now r ≡ hourLineIn (now (file .entry)) k ⌝ }
 {
-    let from = FIRST_DATE + layout::SO2_BYTES * k;
-    &file[from..from + layout::DATE_WIDTH]
+    let from = layout::FACILITY_BYTES + layout::SO2_BYTES * k;
+    &file[from..from + layout::SO2_LENGTH]
 }
 
-// The date that the line of rank k of a type must have: that of the 200 line of this rank.
-fn date_due(file: &[u8], t: RecordType, n: usize, k: usize) -> &[u8]
+// The 200 line by which the line of rank k of a type is judged: that of this rank, none for a type without date.
+fn hour_due(file: &[u8], t: RecordType, n: usize, k: usize) -> &[u8]
     requires { ⌜ Counted (now file) n × (k < countOf (shape n) t) ⌝ }
-    ensures { λ r. ⌜ now r ≡ dateDue (now (file .entry)) t k ⌝ }
+    ensures { λ r. ⌜ now r ≡ hourDue (now (file .entry)) t k ⌝ }
 {
     let run = layout::row_of(t).run;
     match run {
         Run::Once => &file[..0],
-        Run::Hourly => hour_date(file, n, k),
-        Run::Listed => hour_date(file, n, k),
+        Run::Hourly => hour_text(file, n, k),
+        Run::Listed => hour_text(file, n, k),
     }
 }
 
 // The date of the operating hour of rank k, if there is one.
 fn date_left(file: &[u8], n: usize, k: usize) -> &[u8]
     requires { ⌜ Counted (now file) n ⌝ }
-    ensures { λ r. ⌜ now r ≡ getD (drop k (datesIn (now (file .entry)) n)) 0 [] ⌝ }
+    ensures { λ r. ⌜ now r ≡ nextDate (drop k (hourLinesIn (now (file .entry)) n)) ⌝ }
 {
     if k < n {
-        return hour_date(file, n, k);
+        let hour = hour_text(file, n, k);
+        return &hour[layout::HOUR_FROM..layout::HOUR_TO];
     }
     &file[..0]
 }
@@ -108,7 +106,7 @@ fn walk_runs(file: &[u8], n: usize, first: usize, end: usize, start: Cursor) -> 
             if file.len() <= at {
                 return halted(10, line);
             }
-            let fault = lines::due_fault(facility, date_due(file, t, n, k), &file[at..], t);
+            let fault = lines::due_fault(facility, hour_due(file, t, n, k), &file[at..], t);
             if fault != 0 {
                 return halted(fault, line);
             }
@@ -174,7 +172,7 @@ fn walk_operations(file: &[u8], period: Period, n: usize, start: Cursor) -> Pass
 // The lines behind the last 300 line.
 fn walk_last(file: &[u8], period: Period, s: Shape, start: Cursor) -> Reading
     requires { ⌜ Counted (now file) (s .hours) × Here (now file) start ⌝ }
-    ensures { λ r. ⌜ r ≡ walkLast (facilityOf (now (file .entry))) period s (start .line) (datesIn (now (file .entry)) (s .hours))
+    ensures { λ r. ⌜ r ≡ walkLast (facilityOf (now (file .entry))) period s (start .line) (hourLinesIn (now (file .entry)) (s .hours))
         (lines (drop (start .at) (now (file .entry)))) ⌝ }
 {
     let last = walk_runs(
@@ -198,7 +196,7 @@ fn walk_last(file: &[u8], period: Period, s: Shape, start: Cursor) -> Reading
 // The lines behind the last 220 line.
 fn walk_listed(file: &[u8], period: Period, n: usize, start: Cursor) -> Reading
     requires { ⌜ Counted (now file) n × Here (now file) start × IsQuarter (period .quarter) ⌝ }
-    ensures { λ r. ⌜ r ≡ walkListed (facilityOf (now (file .entry))) period (start .line) (datesIn (now (file .entry)) n)
+    ensures { λ r. ⌜ r ≡ walkListed (facilityOf (now (file .entry))) period (start .line) (hourLinesIn (now (file .entry)) n)
         (lines (drop (start .at) (now (file .entry)))) ⌝ }
 {
     let listed = walk_operations(file, period, n, start);
@@ -219,7 +217,7 @@ fn walk_listed(file: &[u8], period: Period, n: usize, start: Cursor) -> Reading
 // The lines behind n 200 lines.
 fn walk_later(file: &[u8], period: Period, n: usize) -> Reading
     requires { ⌜ Counted (now file) n × IsQuarter (period .quarter) ⌝ }
-    ensures { λ r. ⌜ r ≡ walkLater (facilityOf (now (file .entry))) period (2 + n) (datesIn (now (file .entry)) n)
+    ensures { λ r. ⌜ r ≡ walkLater (facilityOf (now (file .entry))) period (2 + n) (hourLinesIn (now (file .entry)) n)
         (lines (drop (hourStart n) (now (file .entry)))) ⌝ }
 {
     let hours = walk_runs(

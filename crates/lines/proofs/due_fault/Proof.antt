@@ -9,8 +9,9 @@ use Rattle.layout.specs.Layout.{lengthOf, dateColumn}
 use Rattle.layout.specs.LayoutLaws.{date-fits}
 use Rattle.layout.specs.declared.Row.{Row}
 use Rattle.layout.specs.declared.RecordType.{RecordType}
+use Rattle.layout.specs.declared.RecordType.the-variants.{So2Concentration}
 use Rattle.lines.specs.Lines.{firstLine}
-use Rattle.lines.specs.LineFaults.{shapeFault, commonFault, dateFault, dueFault}
+use Rattle.lines.specs.LineFaults.{shapeFault, commonFault, dateOn, dateFault, dueFault}
 use Rattle.lines.specs.FaultLaws.{common-shape}
 use Rattle.lines.proofs.Chains.{first-of, second-of, third-of}
 use Rattle.lines.proofs.Shapes.{line-known, line-length}
@@ -24,7 +25,7 @@ start c = c .before .before .before .before .before
 abbrev shaped : tie.After-row-of → tie.Else1
 shaped c = c .before
 
-abbrev rowed : tie.After-date-fault → tie.After-row-of
+abbrev rowed : tie.After-ranked-date-fault → tie.After-row-of
 rowed c = c .before .before
 
 -- the line, once it has no fault that every line is tried for
@@ -34,6 +35,10 @@ module _ (c : tie.After-row-of) where
 
   abbrev rest : List ℕ
   rest = start (shaped c) .args .rest .now
+
+  -- the date and hour of the 200 line
+  abbrev date : List ℕ
+  date = dateOn So2Concentration (start (shaped c) .args .hour .now)
 
   abbrev line : List ℕ
   line = take (c .row-of .result .length) rest
@@ -57,11 +62,11 @@ module _ (c : tie.After-row-of) where
   long = line-length t rest fine (c .row-of .result .length) sized
 
 -- the fault of its date
-told : (c : tie.After-date-fault) →
-    let k = rowed c in c .date-fault .result ≡ dateFault (dateColumn (t k)) (start (shaped k) .args .date .now) (firstLine (rest k))
+told : (c : tie.After-ranked-date-fault) →
+    let k = rowed c in c .ranked-date-fault .result ≡ dateFault (dateColumn (t k)) (date k) (firstLine (rest k))
 told c =
     let k = rowed c in
-    c .date-fault .ensures ∙ ap₂ (λ (column : ℕ) (l : List ℕ). dateFault column (start (shaped k) .args .date .now) l) (dated k) (sym (known k))
+    c .ranked-date-fault .ensures ∙ ap₂ (λ (column : ℕ) (l : List ℕ). dateFault column (date k) l) (dated k) (sym (known k))
 
 common-fault-requires : tie.Need-common-fault-requires
 common-fault-requires c κs = search needs
@@ -76,8 +81,10 @@ row-of-requires c κs = search needs
 slice-aggregate-line : tie.Need-slice-aggregate-line
 slice-aggregate-line c = sized (c .before) ∙ sym (long (c .before))
 
-date-fault-requires : tie.Need-date-fault-requires
-date-fault-requires c κs = let k = c .before in omega (arith, long k, dated k, date-fits (t k))
+ranked-date-fault-requires : tie.Need-ranked-date-fault-requires
+ranked-date-fault-requires c κs =
+    let k = c .before in
+    (omega (arith, long k, dated k, date-fits (t k)), (λ h. start (shaped k) .pre .1 (omega (arith, h, dated k))))
 
 returns-2 : tie.Need-returns-2
 unfolding dueFault
@@ -103,7 +110,7 @@ due-fault-spec =
     returns
     row-of-requires
     slice-aggregate-line
-    date-fault-requires
+    ranked-date-fault-requires
     returns-2
     values-fault-requires
     returns-3)

@@ -1,4 +1,4 @@
--- The date and hour of a line, where its type has one, compared with the one that it must be.
+-- The date and hour of a line, compared with the one that it must be.
 use Rattle.lines.proofs.Values.{date-compared}
 use mathlib.Core.Path.{_≡_, refl, sym, _∙_}
 use native.Mathlib.Omega.{arith}
@@ -9,26 +9,19 @@ use Rattle.lines.proofs.faults.date_fault.Statement.{statement}
 use Rattle.lines.proofs.faults.date_fault.Tie as tie
 
 -- the places of the code, each from the next one below it
-abbrev start : tie.Else1 → tie.Start
-start c = c .before .before .before
-
-abbrev columned : tie.After-same-bytes → tie.Else1
-columned c = c .before .before
+abbrev start : tie.After-same-bytes → tie.Start
+start c = c .before .before .before .before
 
 -- the verdict of the comparison
-told : (c : tie.After-same-bytes) → let x = start (columned c) .args in
+told : (c : tie.After-same-bytes) → let x = start c .args in
     dateFault (x .column) (x .date .now) (x .line .now) ≡ unless (c .same-bytes .result) 7
-told c = date-compared _ _ _ _ _ refl (columned c .if1 .left) (c .same-bytes .ensures)
-
-returns : tie.Need-returns
-unfolding dateFault
-returns c = rw (c .if1 .taken)
+told c = let p = start c .pre .0 in date-compared _ _ _ _ _ refl (λ e. omega arith) (c .same-bytes .ensures)
 
 sub-from : tie.Need-sub-from
 sub-from c = search needs
 
 add-same-bytes : tie.Need-add-same-bytes
-add-same-bytes c = omega (arith, start c .pre)
+add-same-bytes c = omega (arith, c .before .before .pre)
 
 sub-same-bytes : tie.Need-sub-same-bytes
 sub-same-bytes c = search needs
@@ -37,27 +30,26 @@ part-same-bytes-start : tie.Need-part-same-bytes-start
 part-same-bytes-start c = search needs
 
 part-same-bytes-end : tie.Need-part-same-bytes-end
-part-same-bytes-end c = omega (arith, start c .pre)
+part-same-bytes-end c = omega (arith, c .before .before .pre)
 
 same-bytes-requires : tie.Need-same-bytes-requires
 same-bytes-requires c κs = search needs
 
-returns-2 : tie.Need-returns-2
-returns-2 c = sym (told (c .before) ∙ rw (c .if2 .taken))
+returns : tie.Need-returns
+returns c = sym (told (c .before) ∙ rw (c .if1 .taken))
 
-returns-3 : tie.Need-returns-3
-returns-3 c = sym (told (c .before) ∙ rw (c .if2 .left))
+returns-2 : tie.Need-returns-2
+returns-2 c = sym (told (c .before) ∙ rw (c .if1 .left))
 
 pub date-fault-spec : {M : Type 1} → statement M
 date-fault-spec =
     tie.close
     (tie.spec
-    returns
     sub-from
     add-same-bytes
     sub-same-bytes
     part-same-bytes-start
     part-same-bytes-end
     same-bytes-requires
-    returns-2
-    returns-3)
+    returns
+    returns-2)

@@ -5,7 +5,7 @@ use Rattle.reading.specs.Passages.{led}
 use Rattle.reading.specs.declared.Report.{Report}
 use Rattle.reading.specs.declared.walk.Passage.{Passage}
 use Rattle.reading.specs.Reading.{runsOf, lastTypes, walkDue}
-use Rattle.reading.specs.Places.{facilityOf, datesIn}
+use Rattle.reading.specs.Places.{facilityOf, hourLinesIn}
 use Rattle.lines.specs.Lines.{lines}
 use lib.ListN.{drop}
 use Rattle.reading.proofs.Walking.{leads, end-over, end-done}
@@ -26,13 +26,14 @@ module _ (c : tie.After-walk-runs) where
 
   whole : (x : Passage) → c .walk-runs .result ≡ x →
       let a = start c .args in
-      led (a .file .now) x (walkEnd report) ≡ walkLast (facilityOf (a .file .now)) (a .period) (a .s) (a .start .line) (datesIn (a .file .now) (a .s .hours))
+      led (a .file .now) x (walkEnd report)
+      ≡ walkLast (facilityOf (a .file .now)) (a .period) (a .s) (a .start .line) (hourLinesIn (a .file .now) (a .s .hours))
       (lines (drop (a .start .at) (a .file .now)))
   unfolding walkLast
   whole x e =
       let a = start c .args in
       leads (a .file .now)
-      (λ after. walkDue (facilityOf (a .file .now)) (a .start .line) (runsOf lastTypes (datesIn (a .file .now) (a .s .hours)))
+      (λ after. walkDue (facilityOf (a .file .now)) (a .start .line) (runsOf lastTypes (hourLinesIn (a .file .now) (a .s .hours)))
       (lines (drop (a .start .at) (a .file .now))) after)
       (c .walk-runs .ensures .reads) e (walkEnd report)
 

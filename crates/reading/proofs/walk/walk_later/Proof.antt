@@ -7,7 +7,7 @@ use Rattle.layout.specs.Layout.{lengthOf}
 use Rattle.layout.specs.declared.RecordType.the-variants.{Facility, So2Concentration}
 use Rattle.lines.specs.Lines.{lines}
 use Rattle.reading.specs.Reading.{firstTypes, runsOf, After, walkDue, walkListed, walkLater}
-use Rattle.reading.specs.Places.{facilityOf, hourStart, datesIn}
+use Rattle.reading.specs.Places.{facilityOf, hourStart, hourLinesIn}
 use Rattle.reading.specs.Passages.{led, Here, HereOn}
 use Rattle.reading.specs.declared.walk.Cursor.{Cursor}
 use Rattle.reading.specs.declared.walk.Passage.{Passage}
@@ -36,18 +36,18 @@ here c = subst (HereOn (start (passed c) .args .file .now)) (on c) (passed c .wa
 module _ (c : tie.After-walk-runs) where
   -- what follows them
   abbrev behind : After
-  behind line ls = let a = start c .args in walkListed (facilityOf (a .file .now)) (a .period) line (datesIn (a .file .now) (a .n)) ls
+  behind line ls = let a = start c .args in walkListed (facilityOf (a .file .now)) (a .period) line (hourLinesIn (a .file .now) (a .n)) ls
 
   whole : (x : Passage) → c .walk-runs .result ≡ x →
       let a = start c .args in
-      led (a .file .now) x behind ≡ walkLater (facilityOf (a .file .now)) (a .period) (2 + a .n) (datesIn (a .file .now) (a .n))
+      led (a .file .now) x behind ≡ walkLater (facilityOf (a .file .now)) (a .period) (2 + a .n) (hourLinesIn (a .file .now) (a .n))
       (lines (drop (hourStart (a .n)) (a .file .now)))
   unfolding walkLater
   whole x e =
       let a = start c .args in
       let z : lengthOf Facility + 1 + (lengthOf So2Concentration + 1) * a .n ≡ hourStart (a .n) = omega arith in
       leads (a .file .now)
-      (λ after. walkDue (facilityOf (a .file .now)) (2 + a .n) (runsOf firstTypes (datesIn (a .file .now) (a .n)))
+      (λ after. walkDue (facilityOf (a .file .now)) (2 + a .n) (runsOf firstTypes (hourLinesIn (a .file .now) (a .n)))
       (lines (drop (hourStart (a .n)) (a .file .now))) after)
       (rw z at (c .walk-runs .ensures .reads)) e behind
 

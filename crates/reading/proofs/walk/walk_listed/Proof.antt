@@ -5,12 +5,12 @@ use lib.ListN.{length, drop}
 use Rattle.layout.specs.Layout.{shapeWith}
 use Rattle.lines.specs.Lines.{lines}
 use Rattle.reading.specs.Reading.{After, walkOperations, walkLast, walkListed}
-use Rattle.reading.specs.Places.{facilityOf, datesIn}
+use Rattle.reading.specs.Places.{facilityOf, hourLinesIn}
 use Rattle.reading.specs.Passages.{led, Here, HereOn, FewOn}
 use Rattle.reading.specs.declared.walk.Cursor.{Cursor}
 use Rattle.reading.specs.declared.walk.Passage.{Passage}
 use Rattle.reading.specs.declared.walk.Passage.the-variants.{On}
-use Rattle.reading.proofs.Runs.{dates-length}
+use Rattle.reading.specs.HourLineLaws.{hour-lines-length}
 use Rattle.reading.proofs.Walking.{leads}
 use borrow.Author.Needs.{needs}
 use Rattle.reading.proofs.walk.walk_listed.Statement.{statement}
@@ -40,18 +40,18 @@ module _ (c : tie.After-walk-operations) where
   behind : After
   behind line ls =
       let a = start c .args in
-      walkLast (facilityOf (a .file .now)) (a .period) (shapeWith (length (datesIn (a .file .now) (a .n))) (line - a .start .line)) line
-      (datesIn (a .file .now) (a .n)) ls
+      walkLast (facilityOf (a .file .now)) (a .period) (shapeWith (length (hourLinesIn (a .file .now) (a .n))) (line - a .start .line)) line
+      (hourLinesIn (a .file .now) (a .n)) ls
 
   whole : (x : Passage) → c .walk-operations .result ≡ x →
       let a = start c .args in
-      led (a .file .now) x behind ≡ walkListed (facilityOf (a .file .now)) (a .period) (a .start .line) (datesIn (a .file .now) (a .n))
+      led (a .file .now) x behind ≡ walkListed (facilityOf (a .file .now)) (a .period) (a .start .line) (hourLinesIn (a .file .now) (a .n))
       (lines (drop (a .start .at) (a .file .now)))
   unfolding walkListed behind
   whole x e =
       let a = start c .args in
       leads (a .file .now)
-      (λ after. walkOperations (facilityOf (a .file .now)) (a .period) (a .start .line) 0 (datesIn (a .file .now) (a .n))
+      (λ after. walkOperations (facilityOf (a .file .now)) (a .period) (a .start .line) 0 (hourLinesIn (a .file .now) (a .n))
       (lines (drop (a .start .at) (a .file .now))) after)
       (c .walk-operations .ensures .reads) e behind
 
@@ -80,7 +80,7 @@ returns-2 c =
     let a = start (passed k) .args in
     c .walk-last .ensures
     ∙ ap (λ (n : ℕ). walkLast (facilityOf (a .file .now)) (a .period) (shapeWith n (next k .line - a .start .line)) (next k .line)
-    (datesIn (a .file .now) (a .n)) (lines (drop (next k .at) (a .file .now)))) (sym (dates-length (a .file .now) (a .n)))
+    (hourLinesIn (a .file .now) (a .n)) (lines (drop (next k .at) (a .file .now)))) (sym (hour-lines-length (a .file .now) (a .n)))
     ∙ whole (passed k) (On (next k)) (on k)
 
 pub walk-listed-spec : {M : Type 1} → statement M

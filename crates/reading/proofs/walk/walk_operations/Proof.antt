@@ -2,12 +2,12 @@
 use Prim.Native.Nat.{ℕ, _+_, _-_}
 use mathlib.Core.Path.{_≡_, sym, ap, ap₂, subst₂, _∙_}
 use mathlib.Core.Bool.{true}
-use mathlib.Core.List.{List, []}
+use mathlib.Core.List.{List}
 use mathlib.Core.Logic.{⊎-elim}
 use native.Mathlib.Omega.{arith}
 use borrow.Author.Needs.{needs}
 use borrow.Author.Tests.{not-true, not-false}
-use lib.ListN.{length, take, drop, getD}
+use lib.ListN.{length, take, drop}
 use lib.Seq.{length-take-le}
 use Rattle.layout.specs.Layout.{lengthOf}
 use Rattle.layout.specs.declared.RecordType.the-variants.{Facility, Operation}
@@ -15,7 +15,8 @@ use Rattle.lines.specs.Lines.{firstLine}
 use Rattle.lines.specs.LineFaults.{typeIs, operationLine}
 use Rattle.lines.specs.declared.Period.{Period}
 use Rattle.lines.specs.declared.operation.OperationLine.{OperationLine}
-use Rattle.reading.specs.Places.{facilityOf, datesIn}
+use Rattle.reading.specs.Reading.{nextDate}
+use Rattle.reading.specs.Places.{facilityOf, hourLinesIn}
 use Rattle.reading.specs.declared.walk.Cursor.{Cursor}
 use Rattle.columns.specs.ColumnsLaws.{part-end}
 use Rattle.reading.proofs.Listing.{Listing, listing-start, listing-over, listing-other, listing-found, listing-idle, listing-operating}
@@ -81,7 +82,7 @@ module _ (c : tie.At-loop Inv-loop μ-loop) where
   line = firstLine (drop (c .loop .at) file)
 
   abbrev date : List ℕ
-  date = getD (drop (c .loop .rank) (datesIn file hours)) 0 []
+  date = nextDate (drop (c .loop .rank) (hourLinesIn file hours))
 
   long : length (take (lengthOf Facility) file) ≡ lengthOf Facility
   long = length-take-le (lengthOf Facility) file (omega (arith, opened c .pre .0 .room))

@@ -12,10 +12,10 @@ use Rattle.layout.specs.declared.RecordType.the-variants.{Facility}
 use Rattle.lines.specs.Lines.{firstLine}
 use Rattle.lines.specs.LineFaults.{Due, dueOf, dueFault}
 use Rattle.reading.specs.Reading.{runOf, runsOf}
-use Rattle.reading.specs.Places.{facilityOf, datesIn, dateDue}
+use Rattle.reading.specs.Places.{facilityOf, hourLinesIn, hourDue}
 use Rattle.reading.specs.declared.walk.Cursor.{Cursor}
 use Rattle.columns.specs.ColumnsLaws.{part-end}
-use Rattle.reading.proofs.Runs.{runs-end}
+use Rattle.reading.proofs.Runs.{runs-end, due-long}
 use Rattle.reading.proofs.Walking.{Walked, walked-start, walked-join, walked-type, walked-run}
 use Rattle.reading.proofs.Walking.{walked-missing, walked-found, walked-room, walked-next, runs-halted, runs-on}
 use Rattle.reading.proofs.walk.walk_runs.Statement.{statement}
@@ -26,10 +26,10 @@ cursor at line = record { line = line; at = at }
 
 -- what is due from a place of the order on, and of a type from a rank on with the types behind it
 abbrev dueFrom : List ℕ → ℕ → ℕ → ℕ → List Due
-dueFrom file n end place = runsOf (drop place (take end order)) (datesIn file n)
+dueFrom file n end place = runsOf (drop place (take end order)) (hourLinesIn file n)
 
 abbrev dueAt : List ℕ → ℕ → ℕ → ℕ → RecordType → ℕ → List Due
-dueAt file n end place t k = drop k (runOf t (datesIn file n)) ++ dueFrom file n end (place + 1)
+dueAt file n end place t k = drop k (runOf t (hourLinesIn file n)) ++ dueFrom file n end (place + 1)
 
 abbrev Inv-loop2 : tie.InvT-loop2
 Inv-loop2 file n first end facility at₀ line₀ place t count k₀ at line k =
@@ -63,10 +63,10 @@ Tried = tie.After-due-fault Inv-loop2 μ-loop2 Inv-loop μ-loop
 long : (c : Start) → length (take (lengthOf Facility) (c .args .file .now)) ≡ lengthOf Facility
 long c = length-take-le (lengthOf Facility) (c .args .file .now) (omega (arith, c .pre .0 .room))
 
--- the fault of a line, from the date and the rest that were looked at
-fault-of : (facility : List ℕ) (t : RecordType) {date date′ rest rest′ : List ℕ} {f : ℕ} → f ≡ dueFault facility (dueOf t date′) (firstLine rest′) →
-    date′ ≡ date → rest′ ≡ rest →
-    f ≡ dueFault facility (dueOf t date) (firstLine rest)
+-- the fault of a line, from the 200 line and the rest that were looked at
+fault-of : (facility : List ℕ) (t : RecordType) {hour hour′ rest rest′ : List ℕ} {f : ℕ} → f ≡ dueFault facility (dueOf t hour′) (firstLine rest′) →
+    hour′ ≡ hour → rest′ ≡ rest →
+    f ≡ dueFault facility (dueOf t hour) (firstLine rest)
 fault-of facility t e d r = rw (← d, ← r) e
 
 -- the places of the code, each from the next one below it
@@ -88,10 +88,10 @@ outer c = turn (typed (c .before))
 abbrev due : DueLine → Inner
 due c = c .before
 
-abbrev dated : Tried → tie.After-date-due Inv-loop2 μ-loop2 Inv-loop μ-loop
+abbrev dated : Tried → tie.After-hour-due Inv-loop2 μ-loop2 Inv-loop μ-loop
 dated c = c .before .before
 
-abbrev wanted : tie.After-date-due Inv-loop2 μ-loop2 Inv-loop μ-loop → DueLine
+abbrev wanted : tie.After-hour-due Inv-loop2 μ-loop2 Inv-loop μ-loop → DueLine
 wanted c = c .before .before
 
 abbrev tried : Tried → DueLine
@@ -149,11 +149,11 @@ inside c = omega (arith, counted (due c))
 told : (c : Tried) →
     let i = due (tried c) in
     let f = file (outer i) in
-    c .due-fault .result ≡ dueFault (facilityOf f) (dueOf (type i) (dateDue f (type i) (i .loop2 .k))) (firstLine (drop (i .loop2 .at) f))
+    c .due-fault .result ≡ dueFault (facilityOf f) (dueOf (type i) (hourDue f (type i) (i .loop2 .k))) (firstLine (drop (i .loop2 .at) f))
 told c =
     let i = due (tried c) in
     let f = file (outer i) in
-    fault-of (facilityOf f) (type i) (c .due-fault .ensures) (dated c .date-due .ensures) (part-end (i .loop2 .at) f)
+    fault-of (facilityOf f) (type i) (c .due-fault .ensures) (dated c .hour-due .ensures) (part-end (i .loop2 .at) f)
 
 -- it has no fault, and its length is known
 room : (c : tie.After-line-length Inv-loop2 μ-loop2 Inv-loop μ-loop) → here c .loop2 .at + c .line-length .result ≤ length (file (outer (here c)))
@@ -202,8 +202,8 @@ returns c =
     runs-halted (file o) (hours o) (entry o .args .first) (end o) (start o) _ 10 (l .line) (c .halted .ensures)
     (walked-missing (file o) (hours o) (start o) (all o) (l .at) (l .line) (type (due i)) (l .k) _ (whole (due i)) (inside i) (c .before .if1 .taken))
 
-date-due-requires : tie.Need-date-due-requires Inv-loop2 μ-loop2 Inv-loop μ-loop
-date-due-requires c κs = (entry (outer (due (c .before))) .pre .0, inside (c .before))
+hour-due-requires : tie.Need-hour-due-requires Inv-loop2 μ-loop2 Inv-loop μ-loop
+hour-due-requires c κs = (entry (outer (due (c .before))) .pre .0, inside (c .before))
 
 sub-due-fault : tie.Need-sub-due-fault Inv-loop2 μ-loop2 Inv-loop μ-loop
 sub-due-fault c = omega arith
@@ -215,7 +215,10 @@ part-due-fault-end : tie.Need-part-due-fault-end Inv-loop2 μ-loop2 Inv-loop μ-
 part-due-fault-end c = omega arith
 
 due-fault-requires : tie.Need-due-fault-requires Inv-loop2 μ-loop2 Inv-loop μ-loop
-due-fault-requires c κs = omega (arith, long (entry (outer (due (wanted (c .before))))))
+due-fault-requires c κs =
+    let w = wanted (c .before) in
+    let o = outer (due w) in
+    (omega (arith, long (entry o)), (λ d. rw (c .before .hour-due .ensures) (due-long (file o) (hours o) _ (entry o .pre .0) (type (due w)) (inside w) d)))
 
 halted-requires-2 : tie.Need-halted-requires-2 Inv-loop2 μ-loop2 Inv-loop μ-loop
 halted-requires-2 c κs = search needs
@@ -282,7 +285,7 @@ returns-3 c =
     let o = c .before .before in
     let l = o .loop in
     runs-on (file o) (hours o) (entry o .args .first) (end o) (start o) _ (l .line) (l .at) (c .on .ensures)
-    (rw (runs-end (l .place) (end o) (datesIn (file o) (hours o)) (entry o .pre .3) (omega arith)) at (l .inv .1))
+    (rw (runs-end (l .place) (end o) (hourLinesIn (file o) (hours o)) (entry o .pre .3) (omega arith)) at (l .inv .1))
 
 pub walk-runs-spec : {M : Type 1} → statement M
 walk-runs-spec =
@@ -299,7 +302,7 @@ walk-runs-spec =
     loop2-holds
     halted-requires
     returns
-    date-due-requires
+    hour-due-requires
     sub-due-fault
     part-due-fault-start
     part-due-fault-end

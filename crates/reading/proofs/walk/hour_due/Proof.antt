@@ -1,12 +1,12 @@
--- The date of the 200 line of a rank, for a type that has lines by the hour.
+-- The 200 line of a rank, for a type that has lines by the hour.
 use Prim.Native.Nat.{_<_}
 use mathlib.Core.Path.{_≡_, _∙_}
 use Rattle.layout.specs.declared.Run.{Run}
 use Rattle.layout.specs.Layout.{linesOf, shape}
-use Rattle.reading.proofs.Runs.{run-lines, run-date}
+use Rattle.reading.proofs.Runs.{run-lines, run-hour}
 use borrow.Author.Needs.{needs}
-use Rattle.reading.proofs.walk.date_due.Statement.{statement}
-use Rattle.reading.proofs.walk.date_due.Tie as tie
+use Rattle.reading.proofs.walk.hour_due.Statement.{statement}
+use Rattle.reading.proofs.walk.hour_due.Tie as tie
 
 -- the places of the code, each from the next one below it
 abbrev start : tie.After-row-of → tie.Start
@@ -36,44 +36,44 @@ slice-aggregate-result c = search needs
 enum-told-2 : tie.Need-enum-told-2
 enum-told-2 c = search needs
 
-hour-date-requires : tie.Need-hour-date-requires
-hour-date-requires c κs = (start (hourly c) .pre .0, below (hourly c) _ (c .enum-told2 .given .1))
+hour-text-requires : tie.Need-hour-text-requires
+hour-text-requires c κs = (start (hourly c) .pre .0, below (hourly c) _ (c .enum-told2 .given .1))
 
 enum-told-3 : tie.Need-enum-told-3
 enum-told-3 c = search needs
 
-hour-date-requires-2 : tie.Need-hour-date-requires-2
-hour-date-requires-2 c κs = (start (listed c) .pre .0, below (listed c) _ (c .enum-told3 .given .1))
+hour-text-requires-2 : tie.Need-hour-text-requires-2
+hour-text-requires-2 c κs = (start (listed c) .pre .0, below (listed c) _ (c .enum-told3 .given .1))
 
 returns : tie.Need-returns
 returns c =
     let r = once (c .before) in
     let x = start r .args in
-    run-date (x .t) (r .row-of .ensures) (c .before .enum-told .given .1) (x .file .now) (x .k)
+    run-hour (x .t) (r .row-of .ensures) (c .before .enum-told .given .1) (x .file .now) (x .k)
 
 returns-2 : tie.Need-returns-2
 returns-2 c =
     let r = hourly (c .before) in
     let x = start r .args in
-    c .hour-date .ensures ∙ run-date (x .t) (r .row-of .ensures) (c .before .enum-told2 .given .1) (x .file .now) (x .k)
+    c .hour-text .ensures ∙ run-hour (x .t) (r .row-of .ensures) (c .before .enum-told2 .given .1) (x .file .now) (x .k)
 
 returns-3 : tie.Need-returns-3
 returns-3 c =
     let r = listed (c .before) in
     let x = start r .args in
-    c .hour-date2 .ensures ∙ run-date (x .t) (r .row-of .ensures) (c .before .enum-told3 .given .1) (x .file .now) (x .k)
+    c .hour-text2 .ensures ∙ run-hour (x .t) (r .row-of .ensures) (c .before .enum-told3 .given .1) (x .file .now) (x .k)
 
-pub date-due-spec : {M : Type 1} → statement M
-date-due-spec =
+pub hour-due-spec : {M : Type 1} → statement M
+hour-due-spec =
     tie.close
     (tie.spec
     row-of-requires
     enum-told
     slice-aggregate-result
     enum-told-2
-    hour-date-requires
+    hour-text-requires
     enum-told-3
-    hour-date-requires-2
+    hour-text-requires-2
     returns
     returns-2
     returns-3)

@@ -1,10 +1,10 @@
--- The date of the 200 line of a rank.
+-- The 200 line of a rank.
 use mathlib.Core.Path.{sym}
 use native.Mathlib.Omega.{arith}
-use Rattle.reading.proofs.Runs.{date-part}
+use Rattle.reading.proofs.Runs.{hour-part}
 use borrow.Author.Needs.{needs}
-use Rattle.reading.proofs.walk.hour_date.Statement.{statement}
-use Rattle.reading.proofs.walk.hour_date.Tie as tie
+use Rattle.reading.proofs.walk.hour_text.Statement.{statement}
+use Rattle.reading.proofs.walk.hour_text.Tie as tie
 
 mul-from : tie.Need-mul-from
 mul-from c = omega (arith, c .pre .0 .most, c .pre .1)
@@ -25,10 +25,10 @@ part-result-end : tie.Need-part-result-end
 part-result-end c = omega (arith, c .pre .0 .room, c .pre .1)
 
 returns : tie.Need-returns
-returns c = let x = c .before .args in sym (date-part (x .file .now) (x .k))
+returns c = let x = c .before .args in sym (hour-part (x .file .now) (x .k))
 
-pub hour-date-spec : {M : Type 1} → statement M
-hour-date-spec =
+pub hour-text-spec : {M : Type 1} → statement M
+hour-text-spec =
     tie.close
     (tie.spec
     mul-from
