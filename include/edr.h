@@ -74,7 +74,7 @@ enum edr_refusal {
 
     /* an hour's figure that no unrounded readings give */
     EDR_REFUSAL_HEAT_INPUT_RATE = 11,
-    EDR_REFUSAL_SO2_RATE = 12,
+    EDR_REFUSAL_SO2_RATE = 12, /* in a gas hour: that no unrounded heat input gives */
     EDR_REFUSAL_NOX_RATE = 13,
     EDR_REFUSAL_CO2_RATE = 14,
 
@@ -106,7 +106,10 @@ enum edr_refusal {
     EDR_REFUSAL_IDLE_HEAT_NOT_BLANK = 47, /* time 0.00, and heat input that is not blank */
 
     /* a total of line 301 that differs from the one formed, tried after EDR_REFUSAL_MEAN_NOX_RATE */
-    EDR_REFUSAL_NOX_TOTAL = 48 /* NOx tons: the hours' NOx rate * heat input * time, added up, over 2,000 */
+    EDR_REFUSAL_NOX_TOTAL = 48, /* NOx tons: the hours' NOx rate * heat input * time, added up, over 2,000 */
+
+    /* a 310 line of the file, tried after EDR_REFUSAL_DATE_DIFFERS and before its value's EDR_REFUSAL_FORMAT */
+    EDR_REFUSAL_GAS = 49 /* GAS beside an SO2 reading on the 200 line of the same rank, or a blank reading there without GAS */
 };
 
 /* The kinds of a sheet's words, in the order in which an hour's words stand, and what their values count. */

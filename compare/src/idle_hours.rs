@@ -4,7 +4,7 @@
 
 use second::cases::Case;
 use second::check::{check, Answer};
-use second::figures::{Readings, FIGURES};
+use second::figures::{Monitor, Readings, FIGURES};
 use second::generate::page::Page;
 use second::layout::{DATE_300, HEAT, R300, TIME};
 use second::report::{Hour, PlainPen, Report};
@@ -49,7 +49,7 @@ fn report(operates: Operates) -> Report {
 fn hour(hour_of_quarter: u32) -> Hour {
     let number = u128::from(hour_of_quarter);
     let readings = Readings {
-        so2: 2_000 + number,
+        so2: Monitor(2_000 + number),
         nox: 1_000 + number,
         co2: 100 + number % 50,
         flow: 20_000 + number,

@@ -1,8 +1,9 @@
-//! Fresh cases of the second implementation's maker, sheets for all sizes of written numbers, and quarters with every hour listed,
-//! answered by the proved library and by the second implementation. Prints each case whose answers differ, and at the end how many cases
-//! there were and how many differ.
+//! Fresh cases of the second implementation's maker, sheets for all sizes of written numbers, quarters with every hour listed, and gas
+//! hours at every edge, answered by the proved library and by the second implementation. Prints each case whose answers differ, and at
+//! the end how many cases there were and how many differ.
 
 mod float_hours;
+mod gas_hours;
 mod idle_hours;
 mod written_numbers;
 mod years;
@@ -98,6 +99,7 @@ fn compare(seed: u64, count: usize) -> usize {
     let mut cases = generate::cases(seed, count);
     cases.extend(written_numbers::cases());
     cases.extend(idle_hours::cases());
+    cases.extend(gas_hours::cases());
     let joinings = generate::years(seed, count);
     let hours = generate::float_hours(seed, count);
     let mut comparing = Comparing::default();

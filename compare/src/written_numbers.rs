@@ -10,7 +10,7 @@ use std::iter::repeat_n;
 use numbers::{every_size, largest_figures, numbers, sizes_in, Name, Number, MOST_HOURS};
 use second::calendar::hours_in_quarter;
 use second::cases::{Case, FILL};
-use second::figures::{Figure, Formula, Readings, FIGURES};
+use second::figures::{Figure, Formula, Monitor, Readings, FIGURES};
 use second::generate::sheets::words_of;
 use second::generate::tons::MOST_WRITTEN;
 use second::layout::{report_length, FLOW};
@@ -19,10 +19,11 @@ use second::rounding::span;
 use second::write::{write, Order, WORDS};
 
 /// Beside these, any other reading may be anything in its range.
-const MODEST: Readings = Readings { so2: 10, nox: 10, co2: 100, flow: 1_000, fc: 18_000 };
+const MODEST: Readings = Readings { so2: Monitor(10), nox: 10, co2: 100, flow: 1_000, fc: 18_000 };
 
 /// The largest figures of heat, SO2 and CO2 at once.
-const HEAVIEST: Readings = Readings { so2: 15_000, nox: 99_999, co2: 747, flow: 401_606, fc: 30_000 };
+const HEAVIEST: Readings =
+    Readings { so2: Monitor(15_000), nox: 99_999, co2: 747, flow: 401_606, fc: 30_000 };
 
 /// A total that takes more hours is left to full quarters: one of the hours above, and one of those with the most NOx.
 const SOME_HOURS: usize = 200;
@@ -76,7 +77,7 @@ fn with_every_end(number: &Number) -> Option<Order> {
 fn hour_with(name: Name, number: u128, rank: u32) -> Option<Hour> {
     let readings = match name {
         Name::Time => return Some(hour(rank, number, MODEST)),
-        Name::So2Ppm => Readings { so2: number, ..MODEST },
+        Name::So2Ppm => Readings { so2: Monitor(number), ..MODEST },
         Name::NoxPpm => Readings { nox: number, ..MODEST },
         Name::Co2Percent => Readings { co2: number, ..MODEST },
         Name::Flow => Readings { flow: number / FLOW.unit, ..MODEST },
@@ -95,13 +96,14 @@ fn with_figure(figure: Figure, number: u128) -> Readings {
     let tried = |step: u128| {
         let of_one = match figure {
             Figure::Heat => Readings { co2: 1 + step, flow: 1, fc: 5_000, ..MODEST },
-            Figure::So2 => Readings { so2: 6_000 + step, flow: 1, ..MODEST },
+            Figure::So2 => Readings { so2: Monitor(6_000 + step), flow: 1, ..MODEST },
             Figure::Nox => Readings { nox: 1, co2: 5, fc: 5_000 + step, ..MODEST },
             Figure::Co2 => Readings { co2: 600 + step, flow: 1, fc: 30_000, ..MODEST },
         };
         let (top, bottom) = match figure.formula(&of_one) {
             Formula::Product { top, bottom, x, y } => (top * x * y, bottom),
             Formula::Quotient { top, bottom, x, y } => (top * x, bottom * y),
+            Formula::Multiple { top, bottom, x } => (top * x, bottom),
         };
         let least = (span(number).low * bottom).div_ceil(2 * top);
         match figure {

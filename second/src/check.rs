@@ -1,7 +1,7 @@
 //! The check of a report file, place by place.
 
 use crate::calendar::{exists, Moment};
-use crate::figures::{Readings, FIGURES};
+use crate::figures::{Gas, Monitor, Readings, FIGURES};
 use crate::layout::*;
 use crate::report::{totals_of, Totals, TOTALS};
 use std::fmt;
@@ -197,6 +197,16 @@ impl<'a> Lines<'a> {
         }
     }
 
+    /// The SO2 reading on the 200 line just read, or nothing if it is blank, as
+    /// that of a gas hour should be.
+    fn so2_reading(&self, line: &[u8]) -> Result<Option<u128>, Fault> {
+        if is_blank(SO2.columns.of(line)) {
+            Ok(None)
+        } else {
+            self.value(line, &R200, 0).map(Some)
+        }
+    }
+
     /// The 300 lines: those of the operating hours, one for each date, and idle
     /// hours before, between and behind them.
     fn listed_hours(
@@ -240,6 +250,20 @@ impl<'a> Lines<'a> {
         }
         Ok(numbers)
     }
+
+    /// The 310 lines, one for each date. Those of hours without an SO2 reading
+    /// say GAS, and no others do.
+    fn so2_rates(&mut self, dates: &[&[u8]], so2: &[Option<u128>]) -> Result<Vec<u128>, Fault> {
+        let mut rates = Vec::with_capacity(dates.len());
+        for (date, reading) in dates.iter().zip(so2) {
+            let line = self.next_dated(&R310, date)?;
+            if says_gas(line) != reading.is_none() {
+                return fault(49, self.read);
+            }
+            rates.push(self.value(line, &R310, 0)?);
+        }
+        Ok(rates)
+    }
 }
 
 /// The number that some digits make, or nothing if one is no digit.
@@ -280,7 +304,7 @@ fn read(file: &[u8]) -> Result<Contents, Fault> {
     while lines.next_is(&R200) {
         let (line, date) = lines.next_rising(&R200, DATE_200, &mut rising)?;
         dates.push(date);
-        so2.push(lines.value(line, &R200, 0)?);
+        so2.push(lines.so2_reading(line)?);
     }
 
     let nox = lines.block(&R201, &dates)?;
@@ -292,7 +316,7 @@ fn read(file: &[u8]) -> Result<Contents, Fault> {
     for (index, total) in contents.totals.iter_mut().enumerate() {
         *total = lines.value(line, &R301, index)?;
     }
-    let so2_rate = lines.block(&R310, &dates)?;
+    let so2_rate = lines.so2_rates(&dates, &so2)?;
     let fc_nox = lines.double_block(&R320, &dates)?;
     let co2_rate = lines.block(&R330, &dates)?;
     if lines.read < lines.lines.len() {
@@ -303,7 +327,8 @@ fn read(file: &[u8]) -> Result<Contents, Fault> {
         let [fc, nox_rate] = fc_nox[i];
         contents.heat_lines.push(line);
         contents.times.push(time);
-        contents.readings.push(Readings { so2: so2[i], nox: nox[i], co2: co2[i], flow: flow[i], fc });
+        let so2 = so2[i].map_or(Gas(heat), Monitor);
+        contents.readings.push(Readings { so2, nox: nox[i], co2: co2[i], flow: flow[i], fc });
         contents.figures.push([heat, so2_rate[i], nox_rate, co2_rate[i]]);
     }
     Ok(contents)
@@ -340,7 +365,7 @@ mod tests {
     /// A report with the paper's hour at these hours of the quarter, and with
     /// these idle hours.
     fn report(operating: &[u32], idle: impl IntoIterator<Item = u32>) -> Page {
-        let readings = Readings { so2: 2_500, nox: 2_000, co2: 120, flow: 20_000, fc: 18_000 };
+        let readings = Readings { so2: Monitor(2_500), nox: 2_000, co2: 120, flow: 20_000, fc: 18_000 };
         let figures = FIGURES.map(|figure| figure.of_recorded(&readings));
         let hour = |&hour_of_quarter: &u32| Hour { hour_of_quarter, time: 50, readings, figures };
         let (name, hours) = (*b"STACK1", operating.iter().map(hour).collect());

@@ -3,13 +3,15 @@
 //!
 //! Readings x and y are counted in their recorded units, and so is the figure.
 //! Then heat, SO2 and CO2 have the form `top * x * y / bottom`, and NOx has
-//! the form `top * x / (bottom * y)`.
+//! the form `top * x / (bottom * y)`. In a gas hour SO2 has the form
+//! `top * x / bottom`, x being the recorded heat.
 //!
 //! Why the tests below are exact. Let x run through [a, b) and y through
 //! [c, d), with 0 <= a < b and 0 <= c < d.
 //!
 //! * The products are just the values from a*c up to but not including b*d:
-//!   the lower corner belongs to the spans, the upper one does not.
+//!   the lower corner belongs to the spans, the upper one does not. Multiples of
+//!   x alone go from a to b in the same way.
 //! * The quotients, for c > 0, lie strictly between a/d and b/c, except that
 //!   for a = 0 the value 0 is among them. Neither d nor b is ever reached.
 //!
@@ -21,11 +23,47 @@
 
 use crate::rounding::{half_up, span};
 
-/// Recorded readings of an hour: tenths of ppm, ppm and percent, thousands of
-/// scfh, and tenths of scf/mmBtu.
+/// What the SO2 figure of an hour is formed from.
+#[derive(Clone, Copy, Debug, PartialEq, Eq)]
+pub enum So2Source {
+    /// The reading of the monitor, in tenths of ppm.
+    Monitor(u128),
+    /// In a gas hour, which has no such reading, the recorded heat, in tenths of
+    /// mmBtu/hr.
+    Gas(u128),
+}
+
+pub use So2Source::{Gas, Monitor};
+
+impl So2Source {
+    /// The reading, if there is one.
+    pub fn reading(self) -> Option<u128> {
+        match self {
+            Monitor(reading) => Some(reading),
+            Gas(_) => None,
+        }
+    }
+
+    /// The same source with another number.
+    pub fn map(self, change: impl FnOnce(u128) -> u128) -> Self {
+        match self {
+            Monitor(reading) => Monitor(change(reading)),
+            Gas(heat) => Gas(change(heat)),
+        }
+    }
+}
+
+impl Default for So2Source {
+    fn default() -> Self {
+        Monitor(0)
+    }
+}
+
+/// Recorded readings of an hour: what SO2 is formed from, tenths of ppm and
+/// percent, thousands of scfh, and tenths of scf/mmBtu.
 #[derive(Clone, Copy, Debug, Default, PartialEq, Eq)]
 pub struct Readings {
-    pub so2: u128,
+    pub so2: So2Source,
     pub nox: u128,
     pub co2: u128,
     pub flow: u128,
@@ -44,12 +82,14 @@ pub enum Figure {
 /// All four, in the order of judging.
 pub const FIGURES: [Figure; 4] = [Figure::Heat, Figure::So2, Figure::Nox, Figure::Co2];
 
-/// A formula with its two readings in recorded units.
+/// A formula with its readings in recorded units.
 pub enum Formula {
     /// `top * x * y / bottom`
     Product { top: u128, bottom: u128, x: u128, y: u128 },
     /// `top * x / (bottom * y)`
     Quotient { top: u128, bottom: u128, x: u128, y: u128 },
+    /// `top * x / bottom`
+    Multiple { top: u128, bottom: u128, x: u128 },
 }
 
 impl Figure {
@@ -58,8 +98,12 @@ impl Figure {
         match self {
             // (1000*flow) * (co2/10) / (100 * fc/10), in tenths
             Figure::Heat => Formula::Product { top: 100, bottom: r.fc, x: r.flow, y: r.co2 },
-            // 1.660e-7 * (so2/10) * (1000*flow), in tenths
-            Figure::So2 => Formula::Product { top: 166, bottom: 1_000_000, x: r.so2, y: r.flow },
+            Figure::So2 => match r.so2 {
+                // 1.660e-7 * (so2/10) * (1000*flow), in tenths
+                Monitor(so2) => Formula::Product { top: 166, bottom: 1_000_000, x: so2, y: r.flow },
+                // 0.0006 * (heat/10), in tenths
+                Gas(heat) => Formula::Multiple { top: 6, bottom: 10_000, x: heat },
+            },
             // 1.194e-7 * (nox/10) * (fc/10) * 100 / (co2/10), in thousandths
             Figure::Nox => Formula::Quotient { top: 1194 * r.fc, bottom: 1_000_000, x: r.nox, y: r.co2 },
             // 5.7e-7 * (co2/10) * (1000*flow), in tenths
@@ -72,6 +116,7 @@ impl Figure {
         match self.formula(readings) {
             Formula::Product { top, bottom, x, y } => half_up(top * x * y, bottom),
             Formula::Quotient { top, bottom, x, y } => half_up(top * x, bottom * y),
+            Formula::Multiple { top, bottom, x } => half_up(top * x, bottom),
         }
     }
 
@@ -91,6 +136,11 @@ impl Figure {
                 let (x, y) = (span(x), span(y));
                 2 * top * x.low < target.high * bottom * y.high
                     && 2 * top * x.high > target.low * bottom * y.low
+            }
+            // Twice the value is top * a / bottom.
+            Formula::Multiple { top, bottom, x } => {
+                let x = span(x);
+                top * x.low < target.high * bottom && top * x.high > target.low * bottom
             }
         }
     }
@@ -125,17 +175,18 @@ impl Figure {
 mod tests {
     use super::*;
 
-    const ROW: Readings = Readings { so2: 2_500, nox: 2_000, co2: 120, flow: 20_000, fc: 18_000 };
+    const ROW: Readings = Readings { so2: Monitor(2_500), nox: 2_000, co2: 120, flow: 20_000, fc: 18_000 };
 
     #[test]
     fn hours_to_try() {
-        let dark = Readings { so2: 0, ..ROW };
-        let still = Readings { so2: 0, flow: 0, ..ROW };
-        let thick = Readings { so2: 99_999, flow: 1_000, ..ROW };
+        let dark = Readings { so2: Monitor(0), ..ROW };
+        let still = Readings { so2: Monitor(0), flow: 0, ..ROW };
+        let thick = Readings { so2: Monitor(99_999), flow: 1_000, ..ROW };
         let thick_and_still = Readings { flow: 0, ..thick };
         // Heat whose readings end, and start, exactly at 0.15 and 0.05.
         let ends = Readings { co2: 1, flow: 50, fc: 5_050, ..ROW };
         let starts = Readings { flow: 51, ..ends };
+        let gas = |heat| Readings { so2: Gas(heat), ..ROW };
         for (figure, readings, low, high) in [
             (Figure::So2, ROW, 8_298, 8_302),
             (Figure::Co2, ROW, 1_362, 1_374),
@@ -147,6 +198,12 @@ mod tests {
             (Figure::So2, thick_and_still, 0, 8),
             (Figure::Heat, ends, 0, 1),
             (Figure::Heat, starts, 1, 2),
+            (Figure::So2, gas(13_333), 8, 8),
+            (Figure::So2, gas(832), 0, 0),
+            (Figure::So2, gas(833), 0, 1),
+            (Figure::So2, gas(834), 1, 1),
+            (Figure::So2, gas(0), 0, 0),
+            (Figure::So2, gas(999_999), 600, 600),
         ] {
             assert_eq!(figure.edges(&readings), (low, high), "{figure:?}");
             assert!(figure.possible(&readings, low) && figure.possible(&readings, high));

@@ -6,6 +6,7 @@ mod edges;
 mod files;
 mod float_hours;
 mod flows;
+pub mod gas_hours;
 mod idle_hours;
 pub mod page;
 mod quarters;
@@ -23,16 +24,19 @@ pub use years::Joining;
 /// A family makes what its given turn asks for.
 type Family<T> = fn(&mut Random, usize) -> T;
 
-/// Where the random numbers of a recorder's hours, of files with idle hours, and
-/// of files and sheets for NOx tons start: no other case comes to so high a part.
+/// Where the random numbers of a recorder's hours, of files with idle hours, of
+/// files and sheets for NOx tons, and of files with gas hours start: no other case
+/// comes to so high a part.
 const FLOAT_HOURS: u64 = 1 << 40;
 const IDLE_HOURS: u64 = 1 << 41;
 const TONS: u64 = 1 << 42;
 const SHEETS_FOR_TONS: u64 = 1 << 43;
+const GAS_HOURS: u64 = 1 << 44;
 
 /// The cases of a seed: `count` files to check, a third as many sheets to write,
 /// written reports of all sizes with changes to each, a third as many files with
-/// idle hours, and some files and sheets for NOx tons.
+/// idle hours, some files and sheets for NOx tons, and a fifth as many files with
+/// gas hours.
 pub fn cases(seed: u64, count: usize) -> Vec<Case> {
     let mut cases = Vec::new();
     for number in 0..count {
@@ -62,6 +66,10 @@ pub fn cases(seed: u64, count: usize) -> Vec<Case> {
     for number in 0..count.div_ceil(100) {
         let random = &mut Random::branch(seed, SHEETS_FOR_TONS + number as u64);
         cases.push(tons::sheet(random, number));
+    }
+    for number in 0..count.div_ceil(5) {
+        let random = &mut Random::branch(seed, GAS_HOURS + number as u64);
+        cases.push(Case::File(gas_hours::file(random, number)));
     }
     cases
 }

@@ -84,6 +84,14 @@ const fn ranged(start: usize, width: usize, decimals: usize, low: u128, high: u1
     Value { range: Some((low, high)), ..free(start, width, decimals) }
 }
 
+/// SO2 of a monitor. For a gas hour its columns are blank.
+pub const SO2: Value = free(35, 6, 1);
+
+/// Where the word of a gas hour stands on its 310 line.
+pub const GAS_COLUMNS: Columns = Columns(32, 3);
+/// The word itself.
+pub const GAS_WORD: &[u8; 3] = b"GAS";
+
 /// Flow in scfh, recorded to the nearest thousand.
 pub const FLOW: Value = Value { unit: 1_000, ..ranged(39, 10, 0, 0, 500_000_000) };
 
@@ -103,7 +111,7 @@ const fn record(
 }
 
 pub const R100: Record = record(b"100", 14, None, &[]);
-pub const R200: Record = record(b"200", 40, Some(DATE_200), &[free(35, 6, 1)]);
+pub const R200: Record = record(b"200", 40, Some(DATE_200), &[SO2]);
 pub const R201: Record = record(b"201", 34, Some(Columns(16, 8)), &[free(29, 6, 1)]);
 pub const R202: Record = record(b"202", 34, Some(Columns(16, 8)), &[ranged(29, 6, 1, 1, 1000)]);
 pub const R220: Record = record(b"220", 48, Some(Columns(16, 8)), &[FLOW]);
@@ -125,6 +133,11 @@ pub const HOURLY: [Record; 8] = [R200, R201, R202, R220, R300, R310, R320, R330]
 /// The bytes of a report with so many operating hours and no idle ones.
 pub fn report_length(hours: usize) -> usize {
     75 + 318 * hours
+}
+
+/// Whether a 310 line is that of a gas hour.
+pub fn says_gas(line: &[u8]) -> bool {
+    GAS_COLUMNS.of(line) == GAS_WORD
 }
 
 /// Whether a field has nothing but blanks.
@@ -201,6 +214,16 @@ mod tests {
             assert_eq!(read_number(time.as_bytes(), TIME.decimals), None, "{time}");
         }
         assert_eq!(read_number(b"0.00", TIME.decimals), Some(0));
+    }
+
+    #[test]
+    fn a_gas_hour_has_its_word_in_capitals_at_the_end_of_line_310() {
+        let line = |word: &str| format!("310STACK105070100           0.8{word}").into_bytes();
+        assert_eq!(line("GAS").len(), R310.length);
+        assert!(says_gas(&line("GAS")));
+        for word in ["   ", "gas", "Gas", "GAs", "GA ", " GA", "AS ", " AS", "GAX", "XAS", "SAG", "GGG"] {
+            assert!(!says_gas(&line(word)), "{word}");
+        }
     }
 
     #[test]

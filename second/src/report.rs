@@ -14,6 +14,13 @@ pub struct Hour {
     pub figures: [u128; 4],
 }
 
+impl Hour {
+    /// Whether it is a gas hour.
+    pub fn is_gas(&self) -> bool {
+        self.readings.so2.reading().is_none()
+    }
+}
+
 /// The totals of line 301: SO2, CO2 and heat in tenths, the mean NOx rate in
 /// thousandths, and NOx tons in tenths.
 pub type Totals = [u128; TOTALS];
@@ -35,6 +42,15 @@ pub struct Report {
 /// A value of a line in its recorded unit, or nothing where its columns are
 /// blank.
 type Entry = Option<u128>;
+
+/// What a line says, apart from its type and stack.
+#[derive(Default)]
+struct Line {
+    hour_of_quarter: Option<u32>,
+    /// The values, left to right.
+    entries: Vec<Entry>,
+    says_gas: bool,
+}
 
 /// How the parts of a report that leave a choice are put on paper.
 pub trait Pen {
@@ -97,37 +113,35 @@ impl Report {
 
     /// Whether every number fits into its columns.
     pub fn fits(&self) -> bool {
-        let fit = |record: &Record, numbers: &[u128]| {
-            numbers.iter().zip(record.values).all(|(&number, value)| number * value.unit <= value.largest())
+        let fit = |record: &Record, entries: &[Entry]| {
+            let fits = |(entry, value): (&Entry, &Value)| {
+                entry.is_none_or(|number| number * value.unit <= value.largest())
+            };
+            entries.iter().zip(record.values).all(fits)
         };
-        let hour_fits = |hour: &Hour| HOURLY.iter().all(|record| fit(record, &numbers(record, hour)));
-        self.hours.iter().all(hour_fits) && fit(&R301, &self.totals)
+        let hour_fits = |hour: &Hour| HOURLY.iter().all(|record| fit(record, &entries(record, hour)));
+        self.hours.iter().all(hour_fits) && fit(&R301, &self.totals.map(Some))
     }
 
-    /// The lines of one record type: the hour of the quarter and the values,
-    /// left to right.
-    fn block(&self, record: &Record) -> Vec<(u32, Vec<Entry>)> {
-        let operating = |hour: &Hour| {
-            let entries = numbers(record, hour).into_iter().map(Some);
-            (hour.hour_of_quarter, entries.collect())
+    /// The lines of one record type.
+    fn block(&self, record: &Record) -> Vec<Line> {
+        let operating = |hour: &Hour| Line {
+            hour_of_quarter: Some(hour.hour_of_quarter),
+            entries: entries(record, hour),
+            says_gas: record.kind == R310.kind && hour.is_gas(),
         };
-        let mut lines: Vec<(u32, Vec<Entry>)> = self.hours.iter().map(operating).collect();
+        let idle =
+            |&hour| Line { hour_of_quarter: Some(hour), entries: vec![Some(0), None], ..Line::default() };
+        let mut lines: Vec<Line> = self.hours.iter().map(operating).collect();
         if record.kind == R300.kind {
-            lines.extend(self.idle_hours.iter().map(|&hour| (hour, vec![Some(0), None])));
-            lines.sort_by_key(|&(hour, _)| hour);
+            lines.extend(self.idle_hours.iter().map(idle));
+            lines.sort_by_key(|line| line.hour_of_quarter);
         }
         lines
     }
 
     /// Puts one line with its end on paper.
-    fn line(
-        &self,
-        pen: &mut dyn Pen,
-        record: &Record,
-        hour_of_quarter: Option<u32>,
-        entries: &[Entry],
-        paper: &mut Vec<u8>,
-    ) {
+    fn line(&self, pen: &mut dyn Pen, record: &Record, says: &Line, paper: &mut Vec<u8>) {
         let mut line: Vec<u8> = (0..record.length).map(|_| pen.unread()).collect();
         line[..3].copy_from_slice(record.kind);
         NAME.of_mut(&mut line).copy_from_slice(&self.name);
@@ -136,16 +150,19 @@ impl Report {
             YEAR.of_mut(&mut line).copy_from_slice(year.as_bytes());
             QUARTER.of_mut(&mut line).copy_from_slice(self.quarter.to_string().as_bytes());
         }
-        if let (Some(columns), Some(hour)) = (record.date, hour_of_quarter) {
+        if let (Some(columns), Some(hour)) = (record.date, says.hour_of_quarter) {
             let date = eight_digits(self.year, moment_of(self.year, self.quarter, hour));
             columns.of_mut(&mut line).copy_from_slice(date.as_bytes());
         }
-        for (entry, value) in entries.iter().zip(record.values) {
+        for (entry, value) in says.entries.iter().zip(record.values) {
             let text = match entry {
                 Some(number) => pen.number(value.columns.1, number * value.unit, value.decimals),
                 None => vec![b' '; value.columns.1],
             };
             value.columns.of_mut(&mut line).copy_from_slice(&text);
+        }
+        if says.says_gas {
+            GAS_COLUMNS.of_mut(&mut line).copy_from_slice(GAS_WORD);
         }
         paper.append(&mut line);
         paper.push(b'\n');
@@ -155,32 +172,32 @@ impl Report {
     /// that fit are needed.
     pub fn bytes(&self, pen: &mut dyn Pen) -> Vec<u8> {
         let mut paper = Vec::with_capacity(report_length(self.hours.len()));
-        self.line(pen, &R100, None, &[], &mut paper);
+        self.line(pen, &R100, &Line::default(), &mut paper);
         for record in &HOURLY {
             if record.kind == R310.kind {
-                self.line(pen, &R301, None, &self.totals.map(Some), &mut paper);
+                let totals = Line { entries: self.totals.map(Some).to_vec(), ..Line::default() };
+                self.line(pen, &R301, &totals, &mut paper);
             }
-            for (hour, entries) in self.block(record) {
-                self.line(pen, record, Some(hour), &entries, &mut paper);
+            for line in self.block(record) {
+                self.line(pen, record, &line, &mut paper);
             }
         }
         paper
     }
 }
 
-/// The values of an operating hour's line, left to right, in their recorded
-/// units.
-fn numbers(record: &Record, hour: &Hour) -> Vec<u128> {
+/// The values of an operating hour's line, left to right.
+fn entries(record: &Record, hour: &Hour) -> Vec<Entry> {
     let Hour { time, readings: r, figures: f, .. } = hour;
     match record.kind {
-        b"200" => vec![r.so2],
-        b"201" => vec![r.nox],
-        b"202" => vec![r.co2],
-        b"220" => vec![r.flow],
-        b"300" => vec![*time, f[0]],
-        b"310" => vec![f[1]],
-        b"320" => vec![r.fc, f[2]],
-        _ => vec![f[3]],
+        b"200" => vec![r.so2.reading()],
+        b"201" => vec![Some(r.nox)],
+        b"202" => vec![Some(r.co2)],
+        b"220" => vec![Some(r.flow)],
+        b"300" => vec![Some(*time), Some(f[0])],
+        b"310" => vec![Some(f[1])],
+        b"320" => vec![Some(r.fc), Some(f[2])],
+        _ => vec![Some(f[3])],
     }
 }
 

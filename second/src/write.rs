@@ -1,7 +1,7 @@
 //! The writer: from a sheet of words to the bytes of a report.
 
 use crate::calendar::hours_in_quarter;
-use crate::figures::{Readings, FIGURES};
+use crate::figures::{Monitor, Readings, FIGURES};
 use crate::layout::{report_length, FLOW, R200, R201, R202, R220, R300, R310, R320, R330};
 use crate::report::{Hour, PlainPen, Report};
 
@@ -100,7 +100,7 @@ pub fn hour_of(words: &[u32]) -> Hour {
     let (hour_of_quarter, time) = hour_and_time(words[0]);
     let value = |index: usize| u128::from(value_of(words[index]));
     let flow = value(4) / FLOW.unit;
-    let readings = Readings { so2: value(1), nox: value(2), co2: value(3), flow, fc: value(5) };
+    let readings = Readings { so2: Monitor(value(1)), nox: value(2), co2: value(3), flow, fc: value(5) };
     let figures = FIGURES.map(|figure| figure.of_recorded(&readings));
     Hour { hour_of_quarter, time: time.into(), readings, figures }
 }

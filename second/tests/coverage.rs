@@ -3,6 +3,8 @@
 
 #[path = "coverage/files.rs"]
 mod files;
+#[path = "coverage/gas_hours.rs"]
+mod gas_hours;
 #[path = "coverage/idle_hours.rs"]
 mod idle_hours;
 #[path = "support/numbers.rs"]
@@ -27,7 +29,7 @@ fn every_refusal_occurs_often() {
         let all = cases(seed, COUNT);
         assert!(all.len() >= 2_000);
         let (counts, _) = count(&all);
-        for number in (1..=14).chain(21..=24).chain(31..=34).chain([43, 47, 48]) {
+        for number in (1..=14).chain(21..=24).chain(31..=34).chain([43, 47, 48, 49]) {
             let times: usize = counts.get(&number).map_or(0, |row| row.iter().sum());
             assert!(times >= 15, "seed {seed}: refusal {number} occurs {times} times");
         }
@@ -45,7 +47,7 @@ fn cases_follow_from_the_seed_alone() {
         bytes
     };
     let bytes = encoded(1, COUNT);
-    assert!(bytes.len() <= 2_700_000);
+    assert!(bytes.len() <= 3_000_000);
     assert_eq!(bytes, encoded(1, COUNT));
     assert_ne!(encoded(1, 50), encoded(2, 50));
     assert_eq!(decode(&bytes).as_ref(), Some(&*CASES));

@@ -12,13 +12,14 @@
 //! the value by less than 2*10^-12. The stretch where the formula's values meet
 //! the figure's span, if there is one, is at least 4*10^-10 long (its ends are
 //! fractions with denominators of at most 2,001,000,000, the figure's span is 2
-//! long) or holds the whole walk. So some step falls inside it.
+//! long) or holds the whole walk. So some step falls inside it. For a gas hour the
+//! walk goes through the span of its heat alone, and the denominators are 5,000.
 
 #[path = "support/bignat.rs"]
 mod bignat;
 
 use bignat::Big;
-use second::figures::{Figure, Readings, FIGURES};
+use second::figures::{Figure, Gas, Monitor, Readings, FIGURES};
 use second::generate::tight;
 use second::random::Random;
 use second::report::totals_of;
@@ -127,14 +128,44 @@ fn formula(figure: Figure, x: &Fraction, y: &Fraction, fc: u128) -> Fraction {
     }
 }
 
-/// The two recorded readings of a formula, and the unit of its figure.
+/// SO2 of a gas hour, with its unrounded heat.
+fn gas_formula(heat: &Fraction) -> Fraction {
+    fraction(6, 10_000).times(heat)
+}
+
+/// The two recorded readings of a formula, and the unit of its figure. The hour
+/// is no gas hour.
 fn inputs(figure: Figure, r: &Readings) -> (Recorded, Recorded, Unit) {
     match figure {
         Figure::Heat => (THOUSAND.times(r.flow), TENTH.times(r.co2), TENTH),
-        Figure::So2 => (TENTH.times(r.so2), THOUSAND.times(r.flow), TENTH),
+        Figure::So2 => (TENTH.times(r.so2.reading().unwrap()), THOUSAND.times(r.flow), TENTH),
         Figure::Nox => (TENTH.times(r.nox), TENTH.times(r.co2), THOUSANDTH),
         Figure::Co2 => (TENTH.times(r.co2), THOUSAND.times(r.flow), TENTH),
     }
+}
+
+/// The step at which a walk reaches what it should, or the last of its steps.
+fn step_to(first: u128, reached: impl Fn(u128) -> bool) -> u128 {
+    let (mut low, mut high) = (first, STEPS - 1);
+    while low < high {
+        let half = (low + high) / 2;
+        if reached(half) {
+            high = half;
+        } else {
+            low = half + 1;
+        }
+    }
+    low
+}
+
+/// An unrounded heat that records as the given one and gives this SO2 figure of a
+/// gas hour, or nothing.
+fn gas_witness(heat: u128, wanted: u128) -> Option<Fraction> {
+    let (heat, wanted) = (TENTH.times(heat), TENTH.times(wanted));
+    let step = step_to(0, |step| wanted.reached_by(&gas_formula(&heat.walk(step))));
+    let found = heat.walk(step);
+    let gives = heat.rounded_from(&found) && wanted.rounded_from(&gas_formula(&found));
+    gives.then_some(found)
 }
 
 /// Two unrounded readings that lie behind the figure, or nothing.
@@ -151,16 +182,7 @@ fn witness(figure: Figure, readings: &Readings, wanted: u128) -> Option<(Fractio
         formula(figure, &x, &y, readings.fc)
     };
     let first = u128::from(figure == Figure::Nox);
-    let (mut low, mut high) = (first, STEPS - 1);
-    while low < high {
-        let half = (low + high) / 2;
-        if wanted.reached_by(&value(half)) {
-            high = half;
-        } else {
-            low = half + 1;
-        }
-    }
-    let (a, b) = at(low);
+    let (a, b) = at(step_to(first, |step| wanted.reached_by(&value(step))));
     let lies_behind = x.rounded_from(&a)
         && y.rounded_from(&b)
         && wanted.rounded_from(&formula(figure, &a, &b, readings.fc));
@@ -170,7 +192,10 @@ fn witness(figure: Figure, readings: &Readings, wanted: u128) -> Option<(Fractio
 /// Both tests say the same; returns what.
 fn agree(figure: Figure, readings: &Readings, wanted: u128) -> bool {
     let fast = figure.possible(readings, wanted);
-    let found = witness(figure, readings, wanted).is_some();
+    let found = match (figure, readings.so2) {
+        (Figure::So2, Gas(heat)) => gas_witness(heat, wanted).is_some(),
+        _ => witness(figure, readings, wanted).is_some(),
+    };
     assert_eq!(fast, found, "{figure:?} {readings:?} {wanted}");
     fast
 }
@@ -186,10 +211,10 @@ fn agree_at_edges(figure: Figure, readings: &Readings) {
 
 #[test]
 fn hours_to_try() {
-    let row = Readings { so2: 2_500, nox: 2_000, co2: 120, flow: 20_000, fc: 18_000 };
-    let dark = Readings { so2: 0, ..row };
-    let still = Readings { so2: 0, flow: 0, ..row };
-    let thick = Readings { so2: 99_999, flow: 1_000, ..row };
+    let row = Readings { so2: Monitor(2_500), nox: 2_000, co2: 120, flow: 20_000, fc: 18_000 };
+    let dark = Readings { so2: Monitor(0), ..row };
+    let still = Readings { so2: Monitor(0), flow: 0, ..row };
+    let thick = Readings { so2: Monitor(99_999), flow: 1_000, ..row };
     let thick_and_still = Readings { flow: 0, ..thick };
     let ends = Readings { co2: 1, flow: 50, fc: 5_050, ..row };
     let starts = Readings { flow: 51, ..ends };
@@ -246,7 +271,7 @@ fn hours_without_flow() {
     let mut above_zero = 0;
     for _ in 0..200 {
         let readings = Readings {
-            so2: random.between(0, 99_999),
+            so2: Monitor(random.between(0, 99_999)),
             co2: random.between(1, 1_000),
             fc: random.between(5_000, 30_000),
             ..Readings::default()
@@ -266,7 +291,7 @@ fn ends_of_all_ranges() {
         for co2 in [1, 2, 999, 1_000] {
             for flow in [0, 1, 2, 499_999, 500_000] {
                 for fc in [5_000, 18_000, 30_000] {
-                    let readings = Readings { so2, nox: 99_999 - so2, co2, flow, fc };
+                    let readings = Readings { so2: Monitor(so2), nox: 99_999 - so2, co2, flow, fc };
                     FIGURES.iter().for_each(|&figure| agree_at_edges(figure, &readings));
                 }
             }
@@ -279,7 +304,7 @@ fn many_random_hours() {
     let mut random = Random::new(20_261);
     for _ in 0..400 {
         let readings = Readings {
-            so2: random.spread(99_999),
+            so2: Monitor(random.spread(99_999)),
             nox: random.spread(99_999),
             co2: random.spread(1_000).max(1),
             flow: random.spread(500_000),
@@ -314,6 +339,52 @@ fn the_tightest_edges() {
             }
         }
         assert!(passed > 20 && failed > 20, "{figure:?} {passed} {failed}");
+    }
+}
+
+/// Which of these SO2 figures pass in a gas hour with this heat. No other reading
+/// of the hour matters.
+fn passing(heat: u128, figures: impl IntoIterator<Item = u128>) -> Vec<u128> {
+    let readings = Readings { so2: Gas(heat), co2: 120, fc: 18_000, ..Readings::default() };
+    figures.into_iter().filter(|&wanted| agree(Figure::So2, &readings, wanted)).collect()
+}
+
+#[test]
+fn gas_hours_to_try() {
+    for (heat, figures) in
+        [(13_333, &[8][..]), (832, &[0]), (833, &[0, 1]), (834, &[1]), (0, &[0]), (999_999, &[600])]
+    {
+        assert_eq!(passing(heat, 0..700), figures, "{heat}");
+    }
+}
+
+/// The unrounded heat 5,000 * (2 * figure + 1) / 6, in tenths, is where a figure ends
+/// and the next one starts. It is recorded as one heat, which has both; the heats
+/// beside that have one each. This goes on up to the end of heat's columns.
+#[test]
+fn every_edge_of_gas_hours() {
+    for figure in 0u128..600 {
+        let sixths = 5_000 * (2 * figure + 1);
+        let heat = (sixths + 3) / 6;
+        assert!(6 * heat < sixths + 3 && sixths < 6 * heat + 3);
+        let figures = || figure.saturating_sub(1)..figure + 3;
+        assert_eq!(passing(heat - 1, figures()), [figure]);
+        assert_eq!(passing(heat, figures()), [figure, figure + 1]);
+        assert_eq!(passing(heat + 1, figures()), [figure + 1]);
+    }
+}
+
+#[test]
+fn many_gas_hours() {
+    let mut random = Random::new(20_262);
+    for turn in 0..2_000 {
+        let heat = if turn < 1_000 { turn } else { random.spread(999_999) };
+        let middle = 6 * heat / 10_000;
+        let nearby = passing(heat, middle.saturating_sub(2)..middle + 4);
+        assert!(!nearby.is_empty() && nearby.len() <= 2);
+        let distance = 3 + random.spread(999_999);
+        assert!(passing(heat, [middle + distance]).is_empty());
+        assert!(distance > middle || passing(heat, [middle - distance]).is_empty());
     }
 }
 

@@ -7,7 +7,7 @@ use native.Mathlib.Omega.{arith}
 use lib.ListN.{length, take, drop}
 use lib.Seq.{take-at}
 use Rattle.layout.specs.Layout.{stackWidth, reportLength}
-use Rattle.formulas.specs.Hour.{Unrounded, asRecorded}
+use Rattle.formulas.specs.Hour.{Unrounded, setOf, asRecorded}
 use Rattle.formulas.specs.FormulaLaws.{written-behind}
 use Rattle.formulas.specs.declared.hour.Hour.{Hour}
 use Rattle.totals.specs.Totals.{quarterTotals}
@@ -37,7 +37,7 @@ module _ (year quarter : ℕ) (name : List ℕ) (hs : List ReportHour) (r : Repo
       let g = r .heading in
       let n = r .named in
       let few = reportable-few year quarter name hs r in
-      let h = hours-back year quarter name g n hs (r .hours) in
+      let h = hours-back year quarter name g n hs (r .hours) (r .monitored) in
       record {
         report = own year quarter name g n hs (r .hours) (r .rises) few;
         clean = report-clean year quarter name g n hs (r .hours) (r .rises) few;
@@ -48,15 +48,15 @@ module _ (year quarter : ℕ) (name : List ℕ) (hs : List ReportHour) (r : Repo
   pub report-accepted : (sets : List Unrounded) → SetsBehind (recordedHours hs) sets → checked (report year quarter name hs) ≡ Accepted (formed hs)
   report-accepted sets behind =
       honest-checked (report year quarter name hs) sets (report-honest sets behind)
-      ∙ ap (λ (x : List Hour). Accepted (quarterTotals x)) (hours-back year quarter name (r .heading) (r .named) hs (r .hours))
+      ∙ ap (λ (x : List Hour). Accepted (quarterTotals x)) (hours-back year quarter name (r .heading) (r .named) hs (r .hours) (r .monitored))
 
 -- of a sheet: the recorded readings lie behind the rounded figures
 abbrev recordedSets : List SheetHour → List Unrounded
-recordedSets hs = map (λ h. asRecorded (recordedReadings h)) hs
+recordedSets hs = map (λ h. setOf (asRecorded (recordedReadings h))) hs
 
 recorded-sets-behind : (hs : List SheetHour) → SetsBehind (recordedHours (reportHours hs)) (recordedSets hs)
 recorded-sets-behind [] = tt
-recorded-sets-behind (h ∷ hs) = ((λ q. written-behind q (recordedHour h) refl), recorded-sets-behind hs)
+recorded-sets-behind (h ∷ hs) = ((λ q. written-behind q (recordedHour h) refl refl), recorded-sets-behind hs)
 
 module _ (year quarter : ℕ) (name sheet : List ℕ) (named : length name ≡ stackWidth) where
   abbrev hours : List ReportHour

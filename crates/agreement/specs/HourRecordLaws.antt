@@ -1,31 +1,35 @@
 -- The written records of a report, one by one, pass the line checks.
 use Prim.Native.Nat.{ℕ, zero, suc, _+_, _-_, _≤_, _<_}
-use mathlib.Core.Path.{_≡_, ap, _∙_}
-use mathlib.Core.Bool.{true}
+use mathlib.Core.Path.{_≡_, refl, ap, _∙_}
+use mathlib.Core.Bool.{Bool, true, false}
 use mathlib.Core.List.{List, []}
 use native.Mathlib.Omega.{arith}
-use lib.ListN.{length}
+use lib.ListN.{length, getD}
 use borrow.Author.Tests.{le-leb}
+use Rattle.exact.specs.Faults.{or-zero}
+use Rattle.columns.specs.Bytes.{same}
 use Rattle.columns.specs.BytesLaws.{same-eq}
 use Rattle.columns.specs.Columns.{columns, put}
-use Rattle.columns.specs.ColumnsLaws.{columns-before, columns-back}
+use Rattle.columns.specs.ColumnsLaws.{columns-byte, put-behind, columns-before, columns-back}
 use Rattle.columns.specs.Number.{numberOf}
-use Rattle.columns.specs.Written.{digitsOf}
-use Rattle.columns.specs.WrittenLaws.{digits-length}
+use Rattle.columns.specs.Written.{digitsOf, written}
+use Rattle.columns.specs.WrittenLaws.{digits-length, written-length}
 use Rattle.columns.specs.Rewritten.{DigitsWritten}
 use Rattle.columns.specs.RewrittenLaws.{digits-written}
 use Rattle.calendar.specs.Calendar.{hoursInQuarter}
 use Rattle.calendar.specs.declared.QuarterHour.the-variants.{At}
-use Rattle.layout.specs.Layout.{lengthOf, stackWidth, dateColumn, dateWidth, yearDigits, quarterDigit, valuesOf, Within}
+use Rattle.layout.specs.Layout.{recordOf, lengthOf, stackWidth, dateColumn, dateWidth, yearDigits, quarterDigit, so2Ppm, so2Rate, gasStart, gasWord, valuesOf}
+use Rattle.layout.specs.Layout.{Within}
 use Rattle.layout.specs.LayoutLaws.{date-inside, true-within}
+use Rattle.layout.specs.TypeLaws.{gas-type}
 use Rattle.stamp.specs.Stamp.{stampOf}
 use Rattle.stamp.specs.StampLaws.{stamp-length, stamp-names}
 use Rattle.totals.specs.declared.Quarter.{Quarter}
 use Rattle.layout.specs.declared.RecordType.{RecordType}
-use Rattle.layout.specs.declared.RecordType.the-variants.{Facility, So2Concentration, Operation, QuarterTotals}
-use Rattle.lines.specs.LineFaults.{commonFault, valuesFault, digitsIn, facilityFault, facilityLine}
-use Rattle.lines.specs.LineFaults.{risingFault, hourOn, datedFault, hourFault, hourNumber, hourLine, dueOf, dateFault, dueFault, operates, operationLine, dateOn}
-use Rattle.lines.specs.FaultLaws.{DueRight}
+use Rattle.layout.specs.declared.RecordType.the-variants.{Facility, So2Concentration, Operation, QuarterTotals, So2Mass}
+use Rattle.lines.specs.LineFaults.{commonFault, fieldIn, valuesFault, digitsIn, facilityFault, facilityLine, so2Fault, hasGas, so2Blank, gasFault, dateOn}
+use Rattle.lines.specs.LineFaults.{risingFault, hourOn, datedFault, hourFault, hourNumber, hourLine, dueOf, dateFault, dueFault, operates, operationLine}
+use Rattle.lines.specs.FaultLaws.{DueRight, so2-right}
 use Rattle.lines.specs.OperationLaws.{operation-said, due-operates, due-operation}
 use Rattle.lines.specs.declared.Period.{Period}
 use Rattle.lines.specs.declared.FacilityLine.the-variants.{Of}
@@ -33,11 +37,11 @@ use Rattle.lines.specs.declared.HourLine.the-variants.{At as OfHour}
 use Rattle.lines.specs.declared.operation.OperationLine.the-variants.{Operating}
 use Rattle.sheet.specs.TestLaws.{Heading}
 use Rattle.writer.specs.Recorded.{ReportHour}
-use Rattle.records.specs.Records.{headed, facilityRecord, hourValues, totalValues, totalsRecord}
+use Rattle.records.specs.Records.{headed, facilityRecord, hourValues, totalValues, totalsRecord, valued}
 use Rattle.writer.specs.Written.{hourRecord}
 use Rattle.records.specs.RecordLaws.{facility-printable, totals-printable}
 use Rattle.writer.specs.LineLaws.{hour-printable}
-use Rattle.agreement.specs.RecordLaws.{behindStack, Framed, framed-put, framed-headed, framed-shape, framed-common, framed-valued}
+use Rattle.agreement.specs.RecordLaws.{behindStack, Framed, framed-put, framed-headed, headed-blank, framed-shape, framed-common, framed-valued}
 use Rattle.agreement.specs.RecordLaws.{ValuesWithin, frontColumns, ordered, valued-before, valued-right}
 
 -- behind date and hour stand the values
@@ -153,12 +157,51 @@ module _ (year quarter : ℕ) (name : List ℕ) (g : Heading year quarter name) 
           go zero k e = absurd (omega arith)
           go (suc c) k e = rw (same-eq (columns (suc c) dateWidth line) (stampOf year quarter (h .hour)) .1 e)
 
+  -- a written 200 line has a value, and a written 310 line no GAS
+  module _ (h : ReportHour) where
+    gas-column : getD (hourRecord year quarter name So2Mass h) (gasStart - 1) 0 ≡ 32
+    unfolding hourRecord stamped valued
+    gas-column =
+        let s = stamped-framed So2Mass (omega arith) h .long in
+        let w = written-length (so2Rate .width) (so2Rate .decimals) (h .recorded .figures .so2) (omega arith) in
+        put-behind (so2Rate .start) (written (so2Rate .width) (so2Rate .decimals) (h .recorded .figures .so2)) (stamped So2Mass (omega arith) h)
+        (omega arith) (gasStart - 1) (omega arith)
+        ∙ put-behind (dateColumn So2Mass) (stampOf year quarter (h .hour)) (headed So2Mass name)
+        (omega (arith, stamp-length year quarter (h .hour), framed-headed So2Mass name named .long)) (gasStart - 1)
+        (omega (arith, stamp-length year quarter (h .hour)))
+        ∙ headed-blank So2Mass name named (gasStart - 1) (omega arith) (omega arith)
+
+    pub no-gas : hasGas (hourRecord year quarter name So2Mass h) ≡ false
+    unfolding hasGas
+    no-gas = go (same (columns gasStart (length gasWord) (hourRecord year quarter name So2Mass h)) gasWord) refl
+      where
+        go : (b : Bool) → same (columns gasStart (length gasWord) (hourRecord year quarter name So2Mass h)) gasWord ≡ b → b ≡ false
+        go true e =
+            let w = same-eq (columns gasStart (length gasWord) (hourRecord year quarter name So2Mass h)) gasWord .0 e in
+            let c = columns-byte gasStart (length gasWord) (hourRecord year quarter name So2Mass h) 0 (omega arith) in
+            absurd (omega (arith, c, gas-column, ap (λ (l : List ℕ). getD l 0 0) w))
+        go false e = refl
+
+    module _ (a : ValuesWithin (valuesOf So2Concentration) (hourValues So2Concentration (h .recorded))) where
+      hour-so2 : (so2Fault (fieldIn so2Ppm (hourRecord year quarter name So2Concentration h)) ≡ 0)
+          × (so2Blank (hourRecord year quarter name So2Concentration h) ≡ false)
+      unfolding valuesFault so2Blank
+      hour-so2 = so2-right _ (or-zero _ _ (hour-values So2Concentration (omega arith) h a) .0)
+
+      gas-right : (t : RecordType) (gas : Bool) → recordOf t .gas ≡ gas →
+          gasFault gas (hourRecord year quarter name So2Concentration h) (hourRecord year quarter name t h) ≡ 0
+      unfolding gasFault
+      gas-right t false e = refl
+      gas-right t true e = rw (gas-type t e, no-gas, hour-so2 .1)
+
   -- by the 200 line of its hour
-  module _ (t : RecordType) (dated : 1 ≤ dateColumn t) (h : ReportHour) (a : ValuesWithin (valuesOf t) (hourValues t (h .recorded))) where
+  module _ (t : RecordType) (dated : 1 ≤ dateColumn t) (h : ReportHour) (a : ValuesWithin (valuesOf t) (hourValues t (h .recorded)))
+      (b : ValuesWithin (valuesOf So2Concentration) (hourValues So2Concentration (h .recorded))) where
     pub hour-due : DueRight facility (dueOf t (hourRecord year quarter name So2Concentration h)) (hourRecord year quarter name t h)
     hour-due = record {
       common = hour-common t dated h;
       date = rw (hour-date So2Concentration (omega arith) h) (date-right t dated h a);
+      gas = gas-right h b t (recordOf t .gas) refl;
       values = hour-values t dated h a;
     }
 
@@ -175,17 +218,18 @@ module _ (year quarter : ℕ) (name : List ℕ) (g : Heading year quarter name) 
       hour-right : (from : ℕ) → from ≤ h .hour → hourFault facility period from (hourRecord year quarter name So2Concentration h) ≡ 0
       unfolding hourFault datedFault
       hour-right from f =
-          rw (hour-common So2Concentration (omega arith) h, hour-rises So2Concentration (omega arith) from f) (hour-values So2Concentration (omega arith) h a)
+          rw (hour-common So2Concentration (omega arith) h, hour-rises So2Concentration (omega arith) from f) (hour-so2 h a .0)
 
       pub hour-named : (from : ℕ) → from ≤ h .hour → hourLine facility period from (hourRecord year quarter name So2Concentration h) ≡ OfHour (h .hour)
       unfolding hourLine hourNumber
       hour-named from f = rw (hour-right from f, hourLine) (ap (λ x. OfHour (hourNumber x)) (named-hour So2Concentration (omega arith)))
 
-    module _ (a : ValuesWithin (valuesOf Operation) (hourValues Operation (h .recorded))) where
+    module _ (a : ValuesWithin (valuesOf Operation) (hourValues Operation (h .recorded)))
+        (so2 : ValuesWithin (valuesOf So2Concentration) (hourValues So2Concentration (h .recorded))) where
       pub hour-operates : operates (hourRecord year quarter name Operation h) ≡ true
       hour-operates =
           due-operates facility period 0 (hourRecord year quarter name So2Concentration h) (hourRecord year quarter name Operation h)
-          (hour-due Operation (omega arith) h a)
+          (hour-due Operation (omega arith) h a so2)
 
       pub operation-named : (from : ℕ) → from ≤ h .hour →
           operationLine facility period from (dateOn So2Concentration (hourRecord year quarter name So2Concentration h))
@@ -196,7 +240,7 @@ module _ (year quarter : ℕ) (name : List ℕ) (g : Heading year quarter name) 
           let l = hourRecord year quarter name Operation h in
           let hour = hourRecord year quarter name So2Concentration h in
           operation-said facility period from (dateOn So2Concentration hour) l
-          (due-operation facility period from hour l (hour-due Operation (omega arith) h a) (hour-rises Operation (omega arith) from f))
+          (due-operation facility period from hour l (hour-due Operation (omega arith) h a so2) (hour-rises Operation (omega arith) from f))
           ∙ rw (hour-operates) (ap (λ x. Operating (hourNumber x)) (named-hour Operation (omega arith)))
 
   module _ (q : Quarter) where
@@ -205,7 +249,7 @@ module _ (year quarter : ℕ) (name : List ℕ) (g : Heading year quarter name) 
     totals-framed = framed-valued QuarterTotals name (totalValues q) (headed QuarterTotals name) (framed-headed QuarterTotals name named)
 
     pub totals-due : ValuesWithin (valuesOf QuarterTotals) (totalValues q) → dueFault facility (dueOf QuarterTotals []) (totalsRecord name q) ≡ 0
-    unfolding dueFault dateFault totalsRecord
+    unfolding dueFault dateFault gasFault totalsRecord
     totals-due a =
         rw (framed-common QuarterTotals name facility (totalsRecord name q) (facility-framed .stack) totals-framed (totals-printable name (g .printable) q))
         (valued-right QuarterTotals (totalValues q) (headed QuarterTotals name) (framed-headed QuarterTotals name named .long) a)

@@ -12,18 +12,18 @@ use lib.Dec.{lit≤}
 use Rattle.exact.specs.Logic.{All, ranked, all-at, mapped-at}
 use Rattle.exact.specs.Sums.{totalOf}
 use Rattle.columns.specs.Number.{numberOf}
-use Rattle.layout.specs.Layout.{dateColumn, stackWidth, valueCount, valueAt, order, earlier, countOf, bytesOf, shape}
+use Rattle.layout.specs.Layout.{dateColumn, stackWidth, valueCount, valueAt, thousandsOf, order, earlier, countOf, bytesOf, shape}
 use Rattle.layout.specs.declared.RecordType.{RecordType}
 use Rattle.layout.specs.declared.RecordType.the-variants.{So2Concentration, NoxConcentration, Co2Concentration, VolumetricFlow, Operation}
 use Rattle.layout.specs.declared.RecordType.the-variants.{QuarterTotals, So2Mass, NoxRate, Co2Mass}
 use Rattle.layout.specs.LayoutLaws.{thousands-back}
 use Rattle.totals.specs.TotalLaws.{quarter-hours}
 use Rattle.lines.specs.Lines.{lines}
-use Rattle.lines.specs.LineFaults.{typeIs, fieldIn, operates}
+use Rattle.lines.specs.LineFaults.{typeIs, fieldIn, operates, hasGas}
 use Rattle.reading.specs.Idle.{withoutIdle}
 use Rattle.reading.specs.IdleLaws.{kept-line}
 use Rattle.reading.specs.RecordedLaws.{operation-idle, typed-idle}
-use Rattle.reading.specs.Recorded.{idle, linesWith, recordsOf, valueOn, hourCount, hourAt, hoursOf, totalsIn}
+use Rattle.reading.specs.Recorded.{idle, linesWith, recordsOf, valueOn, hourCount, hourAt, hoursOf, totalsIn, recordAt}
 use Rattle.reading.specs.Places.{numbered, having}
 use Rattle.reading.specs.RecordLaws.{either-type, other-records, operating-records}
 use Rattle.reading.specs.RunLaws.{LineRun, Typed, joined, runsFrom, order-chosen, numbered-length, numbered-at, having-all}
@@ -33,9 +33,9 @@ use Rattle.records.specs.Records.{headed, hourValues, totalValues, totalsRecord
 use Rattle.writer.specs.Writable.{HourWritable}
 use Rattle.writer.specs.Written.{hourRecord, writtenRecords, report}
 use Rattle.writer.specs.ReportLaws.{hour-records, records-count}
-use Rattle.agreement.specs.Reportable.{AllWritable}
+use Rattle.agreement.specs.Reportable.{AllWritable, AllMonitored}
 use Rattle.agreement.specs.RecordLaws.{framed-headed, value-back}
-use Rattle.agreement.specs.HourRecordLaws.{stamped, stamped-framed, hour-operates}
+use Rattle.agreement.specs.HourRecordLaws.{stamped, stamped-framed, hour-operates, no-gas}
 use Rattle.agreement.specs.ReportLaws.{hour-values-within, recorded-length, formed, totals-within, recordsIn, report-lines, records-typed}
 
 abbrev noHour : ReportHour
@@ -43,6 +43,7 @@ noHour = record {
   hour = 0;
   recorded = record {
     time = 0;
+    gas = false;
     readings = record { so2 = 0; nox = 0; co2 = 0; flow = 0; fc = 0 };
     figures = record { heat = 0; so2 = 0; nox = 0; co2 = 0 };
   };
@@ -78,7 +79,8 @@ module _ (year quarter : ℕ) (name : List ℕ) (g : Heading year quarter name) 
   all-operate : (xs : List ReportHour) → AllWritable year quarter xs → All (λ l. operates l ≡ true) (map (hourRecord year quarter name Operation) xs)
   all-operate [] a = tt
   all-operate (x ∷ xs) a =
-      (hour-operates year quarter name g named x (a .0 .exists) (hour-values-within Operation x (omega arith) (a .0 .within)), all-operate xs (a .1))
+      let so2 = hour-values-within So2Concentration x (omega arith) (a .0 .within) in
+      (hour-operates year quarter name g named x (a .0 .exists) (hour-values-within Operation x (omega arith) (a .0 .within)) so2, all-operate xs (a .1))
 
   -- none of them is idle
   none-idle : (t : RecordType) → AllWritable year quarter hs → All (λ l. idle l ≡ false) (records t)
@@ -130,15 +132,22 @@ module _ (year quarter : ℕ) (name : List ℕ) (g : Heading year quarter name) 
           ∙ ap (having operates) (lines-back Operation)
           ∙ having-all operates (records Operation) _ (rw (hour-records year quarter name hs Operation (lit≤ tt)) (all-operate hs a))
 
-  -- a value of the k-th record of a type
-  value-from : (t : RecordType) (k i : ℕ) → AllWritable year quarter hs → k < countOf (shape (length hs)) t →
-      valueOn file t k i ≡ numberOf (fieldIn (valueAt t i) (getD (records t) k []))
-  unfolding valueOn
-  value-from t k i a h =
+  -- the k-th record of a type, and its values
+  text-from : (t : RecordType) (k : ℕ) → AllWritable year quarter hs → k < countOf (shape (length hs)) t → recordAt file t k .text ≡ getD (records t) k []
+  text-from t k a h =
       let c : k < length (records t) = rw (counted 0 t) h in
       rw (records-back t a, numbered-at (records t) (record { number = 0; text = [] }) k (1 + totalOf (countOf (shape (length hs))) (earlier t)) c)
 
+  value-from : (t : RecordType) (k i : ℕ) → AllWritable year quarter hs → k < countOf (shape (length hs)) t →
+      valueOn file t k i ≡ numberOf (fieldIn (valueAt t i) (getD (records t) k []))
+  unfolding valueOn
+  value-from t k i a h = ap (λ (l : List ℕ). numberOf (fieldIn (valueAt t i) l)) (text-from t k a h)
+
   -- of an hour
+  record-of : (t : RecordType) → 1 ≤ dateColumn t → (k : ℕ) → k < length hs → getD (records t) k [] ≡ hourRecord year quarter name t (getD hs k noHour)
+  record-of t d k h =
+      ap (λ (rs : List (List ℕ)). getD rs k []) (hour-records year quarter name hs t d) ∙ mapped-at (hourRecord year quarter name t) hs noHour [] k h
+
   hour-value : (t : RecordType) → 1 ≤ dateColumn t → (k i : ℕ) → k < length hs → k < countOf (shape (length hs)) t → i < valueCount t →
       AllWritable year quarter hs →
       valueOn file t k i ≡ getD (hourValues t (getD hs k noHour .recorded)) i 0
@@ -147,45 +156,51 @@ module _ (year quarter : ℕ) (name : List ℕ) (g : Heading year quarter name) 
       let x = getD hs k noHour in
       let w = all-at (HourWritable year quarter) hs noHour k a h .within in
       value-from t k i a b
-      ∙ ap (λ (r : List ℕ). numberOf (fieldIn (valueAt t i) r))
-      (ap (λ (rs : List (List ℕ)). getD rs k []) (hour-records year quarter name hs t d) ∙ mapped-at (hourRecord year quarter name t) hs noHour [] k h)
+      ∙ ap (λ (r : List ℕ). numberOf (fieldIn (valueAt t i) r)) (record-of t d k h)
       ∙ ap numberOf (value-back t (hourValues t (x .recorded)) (stamped year quarter name g named t d x)
       (stamped-framed year quarter name g named t d x .long) (hour-values-within t x d w) i c)
 
   module _ (a : AllWritable year quarter hs) where
     -- an hour of the report is that of the sheet
-    hour-back : (k : ℕ) → k < length hs → hourAt file k ≡ getD hs k noHour .recorded
+    hour-back : AllMonitored hs → (k : ℕ) → k < length hs → hourAt file k ≡ getD hs k noHour .recorded
     unfolding hourAt
-    hour-back k h =
-        rw (
-          hour-value Operation (lit≤ tt) k 0 h h (omega arith) a,
-          hour-value Operation (lit≤ tt) k 1 h h (omega arith) a,
-          hour-value So2Concentration (lit≤ tt) k 0 h h (omega arith) a,
-          hour-value NoxConcentration (lit≤ tt) k 0 h h (omega arith) a,
-          hour-value Co2Concentration (lit≤ tt) k 0 h h (omega arith) a,
-          hour-value VolumetricFlow (lit≤ tt) k 0 h h (omega arith) a,
-          thousands-back (getD hs k noHour .recorded .readings .flow),
-          hour-value NoxRate (lit≤ tt) k 0 h h (omega arith) a,
-          hour-value So2Mass (lit≤ tt) k 0 h h (omega arith) a,
-          hour-value NoxRate (lit≤ tt) k 1 h h (omega arith) a,
-          hour-value Co2Mass (lit≤ tt) k 0 h h (omega arith) a,
-        )
+    hour-back m k h =
+        let value : (t : RecordType) → 1 ≤ dateColumn t → (i : ℕ) → k < countOf (shape (length hs)) t → i < valueCount t →
+        valueOn file t k i ≡ getD (hourValues t (getD hs k noHour .recorded)) i 0 = λ t d i b c. hour-value t d k i h b c a in
+        let gas = ap hasGas (text-from So2Mass k a h ∙ record-of So2Mass (lit≤ tt) k h) ∙ no-gas year quarter name g named (getD hs k noHour) in
+        λ j. record {
+          time = value Operation (lit≤ tt) 0 h (omega arith) j;
+          gas = (gas ∙ sym (all-at (λ (x : ReportHour). x .recorded .gas ≡ false) hs noHour k m h)) j;
+          readings = record {
+            so2 = value So2Concentration (lit≤ tt) 0 h (omega arith) j;
+            nox = value NoxConcentration (lit≤ tt) 0 h (omega arith) j;
+            co2 = value Co2Concentration (lit≤ tt) 0 h (omega arith) j;
+            flow = (ap thousandsOf (value VolumetricFlow (lit≤ tt) 0 h (omega arith)) ∙ thousands-back (getD hs k noHour .recorded .readings .flow)) j;
+            fc = value NoxRate (lit≤ tt) 0 h (omega arith) j;
+          };
+          figures = record {
+            heat = value Operation (lit≤ tt) 1 h (omega arith) j;
+            so2 = value So2Mass (lit≤ tt) 0 h (omega arith) j;
+            nox = value NoxRate (lit≤ tt) 1 h (omega arith) j;
+            co2 = value Co2Mass (lit≤ tt) 0 h (omega arith) j;
+          };
+        }
 
     count-back : hourCount file ≡ length hs
     count-back = rw (records-back So2Concentration a) (numbered-length (records So2Concentration) _ ∙ counted 0 So2Concentration)
 
-    hours-from : (k left : ℕ) → k + left ≡ length hs → ranked (hourAt file) k left ≡ recordedHours (drop k hs)
+    hours-from : AllMonitored hs → (k left : ℕ) → k + left ≡ length hs → ranked (hourAt file) k left ≡ recordedHours (drop k hs)
     unfolding ranked
-    hours-from k zero e =
+    hours-from m k zero e =
         let b : length hs ≤ k = omega arith in
         rw (drop-of-length-le hs b)
-    hours-from k (suc left) e =
+    hours-from m k (suc left) e =
         let b : k < length hs = omega arith in
-        rw (drop-cons hs k noHour b) (ap₂ _∷_ (hour-back k b) (hours-from (suc k) left (omega arith)))
+        rw (drop-cons hs k noHour b) (ap₂ _∷_ (hour-back m k b) (hours-from m (suc k) left (omega arith)))
 
-    pub hours-back : hoursOf file ≡ recordedHours hs
+    pub hours-back : AllMonitored hs → hoursOf file ≡ recordedHours hs
     unfolding hoursOf
-    hours-back = rw count-back (hours-from 0 (length hs) (omega arith))
+    hours-back m = rw count-back (hours-from m 0 (length hs) (omega arith))
 
     module _ (few : length hs ≤ mostHours) where
       total-back : (i : ℕ) → i < valueCount QuarterTotals → valueOn file QuarterTotals 0 i ≡ getD (totalValues (formed hs)) i 0

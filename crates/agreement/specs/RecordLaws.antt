@@ -6,12 +6,12 @@ use mathlib.Core.Bool.{Bool, true, _&&_}
 use native.Mathlib.Omega.{arith}
 use native.Mathlib.Nat.{le-of-suc-le-suc, not-suc-le-zero, lt-of-le-of-lt}
 use lib.Dec.{leb, ltb}
-use lib.ListN.{length, getD, take, replicate, length-replicate}
+use lib.ListN.{length, getD, take, replicate, length-replicate, getD-replicate}
 use borrow.Author.Tests.{eq-eqb, leb-true, ltb-true}
 use Rattle.columns.specs.Bytes.{isPrintable, all}
 use Rattle.columns.specs.BytesLaws.{same-eq}
 use Rattle.columns.specs.Columns.{columns, put}
-use Rattle.columns.specs.ColumnsLaws.{put-length, columns-before, columns-back}
+use Rattle.columns.specs.ColumnsLaws.{put-length, put-behind, columns-before, columns-back}
 use Rattle.columns.specs.Number.{fieldOf, digitsHeld, fewestColumns}
 use Rattle.columns.specs.Written.{written}
 use Rattle.columns.specs.WrittenLaws.{digits-length}
@@ -67,6 +67,19 @@ module _ (t : RecordType) (name : List ℕ) where
             ∙ columns-back typeStart typeWidth (typeDigits t) blank c (omega (arith, length-least t));
         stack = columns-back stackStart stackWidth name line named (omega (arith, length-least t));
       }
+
+  -- behind the stack name it is blank
+  pub headed-blank : length name ≡ stackWidth → (i : ℕ) → behindStack - 1 ≤ i → i < lengthOf t → getD (headed t name) i 0 ≡ 32
+  unfolding headed
+  headed-blank named i b h =
+      let blank : List ℕ = replicate (lengthOf t) 32 in
+      let l : length blank ≡ lengthOf t = length-replicate (lengthOf t) 32 in
+      let c : length (typeDigits t) ≡ typeWidth = digits-length typeWidth (codeOf t) in
+      let a : typeStart - 1 + length (typeDigits t) ≤ length blank = omega (arith, length-least t) in
+      let m = put-length typeStart (typeDigits t) blank a in
+      put-behind stackStart name (put typeStart (typeDigits t) blank) (omega (arith, length-least t)) i (omega arith)
+      ∙ put-behind typeStart (typeDigits t) blank a i (omega arith)
+      ∙ getD-replicate (lengthOf t) i 32 0 h
 
   pub framed-type : (line : List ℕ) → Framed t name line → typeIs t line ≡ true
   unfolding typeIs columns

@@ -3,7 +3,7 @@
 use Prim.Native.Nat.{ℕ}
 use mathlib.Core.Path.{_≡_, ap}
 use mathlib.Core.List.{List, [], _∷_, map}
-use Rattle.formulas.specs.Hour.{Unrounded}
+use Rattle.formulas.specs.Hour.{Monitored, Unrounded, setOf}
 use Rattle.formulas.specs.Formulas.{hourFrom}
 use Rattle.formulas.specs.FormulaLaws.{recorded-behind}
 use Rattle.totals.specs.Totals.{quarterTotals}
@@ -19,10 +19,10 @@ pub record UnroundedHour : Type 0 where
   pub hour : ℕ
   pub time : ℕ
   pub fc : ℕ
-  pub readings : Unrounded
+  pub readings : Monitored
 
 abbrev pub readingsOf : List UnroundedHour → List Unrounded
-readingsOf hs = map (λ (h : UnroundedHour). h .readings) hs
+readingsOf hs = map (λ (h : UnroundedHour). setOf (h .readings)) hs
 
 abbrev pub roundedHour : UnroundedHour → ReportHour
 roundedHour h = record { hour = h .hour; recorded = hourFrom (h .readings) (h .fc) (h .time) }

@@ -184,7 +184,8 @@ module _ (year quarter : ℕ) (name : List ℕ) (g : Heading year quarter name) 
   unfolding first
   hours-due t d [] rest a = refl
   hours-due t d (x ∷ xs) rest a =
-      (right-due _ _ _ (hour-due year quarter name g named t d x (hour-values-within t x d (a .0 .within))), hours-due t d xs rest (a .1))
+      let so2 = hour-values-within So2Concentration x (omega arith) (a .0 .within) in
+      (right-due _ _ _ (hour-due year quarter name g named t d x (hour-values-within t x d (a .0 .within)) so2), hours-due t d xs rest (a .1))
 
   module _ (a : AllWritable year quarter hs) (few : length hs ≤ mostHours) where
     type-due : (t : RecordType) (rest : List (List ℕ)) → eqb (codeOf t) (codeOf Facility) ≡ false →
@@ -275,11 +276,12 @@ module _ (year quarter : ℕ) (name : List ℕ) (g : Heading year quarter name) 
   operations-walked (x ∷ xs) line from later after a r o =
       let l = hourRecord year quarter name Operation x in
       let w = hour-values-within Operation x (omega arith) (a .0 .within) in
+      let so2 = hour-values-within So2Concentration x (omega arith) (a .0 .within) in
       let e : line + 1 + length xs ≡ line + suc (length xs) = omega arith in
       rw (
         framed-type Operation name l (hour-framed year quarter name g named Operation (omega arith) x),
         walkOperations,
-        operation-named year quarter name g named x (a .0 .exists) w from (r .0),
+        operation-named year quarter name g named x (a .0 .exists) w so2 from (r .0),
         add-one (x .hour),
         ← e,
       )

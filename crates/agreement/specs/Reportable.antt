@@ -1,7 +1,8 @@
 -- A report that can be written, whatever its figures: its heading is right, its hours are hours of the quarter, each later than the one
--- before, and what is recorded of them lies in its ranges.
+-- before, what is recorded of them lies in its ranges, and none is a gas hour.
 use Prim.Native.Nat.{ℕ, suc, _≤_}
 use mathlib.Core.Path.{_≡_}
+use mathlib.Core.Bool.{false}
 use mathlib.Core.List.{List, [], _∷_}
 use lib.ListN.{length}
 use Rattle.exact.specs.Logic.{All}
@@ -13,6 +14,10 @@ use Rattle.writer.specs.Writable.{HourWritable}
 abbrev pub AllWritable : ℕ → ℕ → List ReportHour → Type 0
 AllWritable year quarter hs = All (HourWritable year quarter) hs
 
+-- the writer writes no gas hours
+abbrev pub AllMonitored : List ReportHour → Type 0
+AllMonitored hs = All (λ (h : ReportHour). h .recorded .gas ≡ false) hs
+
 -- hours of the quarter from `from` on, each later than the one before
 abbrev pub Rising : ℕ → List ReportHour → Type 0
 Rising from [] = Unit {0}
@@ -22,4 +27,5 @@ pub record Reportable (year quarter : ℕ) (name : List ℕ) (hs : List ReportHo
   pub heading : Heading year quarter name
   pub named : length name ≡ stackWidth
   pub hours : AllWritable year quarter hs
+  pub monitored : AllMonitored hs
   pub rises : Rising 0 hs

@@ -11,7 +11,7 @@ use Rattle.exact.specs.Fraction.{Fraction, _⊕_, fraction, whole, sumOf, Near}
 use Rattle.exact.specs.Rounding.{recorded}
 use Rattle.exact.specs.Sums.{totalOf}
 use Rattle.formulas.specs.Hour.{tenth}
-use Rattle.formulas.specs.Formulas.{Pair}
+use Rattle.formulas.specs.Formulas.{Entry}
 use Rattle.formulas.specs.declared.hour.Quantity.{Quantity}
 use Rattle.formulas.specs.declared.hour.Quantity.the-variants.{Heat, So2, Co2}
 use Rattle.totals.specs.Mass.{massTons}
@@ -69,14 +69,14 @@ allowedYear co2 j n = fraction j 20 (lit< tt) ⊕ fraction n 20 (lit< tt)
 allowedYear heat j n = fraction j 20 (lit< tt) ⊕ fraction n 20 (lit< tt)
 
 -- a list for each part, behind a quantity's figures of its hours
-abbrev pub BehindAll : Quantity → List Part → List (List Pair) → Type 0
+abbrev pub BehindAll : (q : Quantity) → List Part → List (List (Entry q)) → Type 0
 BehindAll q [] [] = Unit {0}
 BehindAll q [] (es ∷ ess) = ⊥
 BehindAll q (p ∷ ps) [] = ⊥
 BehindAll q (p ∷ ps) (es ∷ ess) = LieBehind q (hoursOf (p .file)) es × BehindAll q ps ess
 
 -- the exact amount of the year: that of its quarters, added
-unfoldable pub exactYear : Quantity → List Part → List (List Pair) → Fraction
+unfoldable pub exactYear : (q : Quantity) → List Part → List (List (Entry q)) → Fraction
 exactYear q [] ess = whole 0
 exactYear q (p ∷ ps) [] = whole 0
 exactYear q (p ∷ ps) (es ∷ ess) = exactAmount q (hoursOf (p .file)) es ⊕ exactYear q ps ess
@@ -93,8 +93,8 @@ pub record YearPromise (year : ℕ) (parts : List Part) (y : YearToDate) : Type 
   pub heat : y .heat ≡ totalOf (λ p. p .answer .heat) parts
   pub nox-tons : y .«nox_tons» ≡ totalOf (λ p. p .answer .«nox_tons») parts
   -- behind each quantity stand unrounded readings; whichever they are, the exact year lies near the reported one
-  pub behind : (q : Quantity) → (ess : List (List Pair)) × BehindAll q parts ess
-  pub bounds : (q : Quantity) (s : Summed q) (ess : List (List Pair)) → BehindAll q parts ess →
+  pub behind : (q : Quantity) → (ess : List (List (Entry q))) × BehindAll q parts ess
+  pub bounds : (q : Quantity) (s : Summed q) (ess : List (List (Entry q))) → BehindAll q parts ess →
       Near (exactYear q parts ess) (reportedYear s y) (allowedYear s (length parts) (y .hours))
   -- and NOx by mass, of recorded figures, within 1/20 ton a quarter
   pub mass : Near (sumOf (λ p. massTons (hoursOf (p .file))) parts) (recorded tenth (y .«nox_tons»)) (fraction (length parts) 20 (lit< tt))

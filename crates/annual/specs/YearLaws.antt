@@ -11,7 +11,7 @@ use Rattle.exact.specs.Rounding.{recorded}
 use Rattle.exact.specs.Sums.{totalOf}
 use Rattle.exact.specs.SumLaws.{sum-near}
 use Rattle.formulas.specs.Hour.{tenth}
-use Rattle.formulas.specs.Formulas.{Pair}
+use Rattle.formulas.specs.Formulas.{Entry}
 use Rattle.formulas.specs.declared.hour.Quantity.{Quantity}
 use Rattle.formulas.specs.declared.hour.Quantity.the-variants.{Heat, So2, Co2}
 use Rattle.totals.specs.Mass.{massTons}
@@ -28,14 +28,14 @@ use Rattle.annual.specs.declared.Joined.{Joined}
 use Rattle.annual.specs.declared.Joined.the-variants.{Record, Refused}
 
 -- behind every part stand lists, and behind all of them a list of lists
-parts-behind : (q : Quantity) (ps : List Part) → (ess : List (List Pair)) × BehindAll q ps ess
+parts-behind : (q : Quantity) (ps : List Part) → (ess : List (List (Entry q))) × BehindAll q ps ess
 parts-behind q [] = ([], tt)
 parts-behind q (p ∷ ps) =
     let b = promise (p .file) .behind (p .answer) (p .accepted) q in
     let r = parts-behind q ps in
     (b .0 ∷ r .0, (b .1, r .1))
 
-part-near : (q : Quantity) (p : Part) (es : List Pair) → LieBehind q (hoursOf (p .file)) es →
+part-near : (q : Quantity) (p : Part) (es : List (Entry q)) → LieBehind q (hoursOf (p .file)) es →
     Near (exactAmount q (hoursOf (p .file)) es) (reported q (p .answer)) (allowed q (p .answer .hours))
 part-near q p es b = promise (p .file) .bounds (p .answer) (p .accepted) q es b
 
@@ -54,9 +54,9 @@ hoursIn ps = totalOf (λ p. p .answer .hours) ps
 
 -- a quantity whose quarters each lie within 1/20 and a share of 1/per an operating hour
 module _ (q : Quantity) (amount : Quarter → ℕ) (per : ℕ) (pos : 0 < per)
-    (each : (p : Part) (es : List Pair) → LieBehind q (hoursOf (p .file)) es →
+    (each : (p : Part) (es : List (Entry q)) → LieBehind q (hoursOf (p .file)) es →
     Near (exactAmount q (hoursOf (p .file)) es) (recorded tenth (amount (p .answer))) (fraction 1 20 (lit< tt) ⊕ fraction (p .answer .hours) per pos)) where
-  parts-near : (ps : List Part) (ess : List (List Pair)) → BehindAll q ps ess →
+  parts-near : (ps : List Part) (ess : List (List (Entry q))) → BehindAll q ps ess →
       Near (exactYear q ps ess) (recorded tenth (totalOf (λ p. amount (p .answer)) ps)) (fraction (length ps) 20 (lit< tt) ⊕ fraction (hoursIn ps) per pos)
   unfolding exactYear totalOf hoursIn
   parts-near [] [] b = omega arith
@@ -125,7 +125,7 @@ grown (p ∷ ps) before y e =
 -- a record whose hours and sums are those of the parts
 module _ (parts : List Part) (y : YearToDate) (h : y .hours ≡ hoursIn parts) where
   year-near : (y .so2 ≡ totalOf (λ p. p .answer .so2) parts) → (y .co2 ≡ totalOf (λ p. p .answer .co2) parts) →
-      (y .heat ≡ totalOf (λ p. p .answer .heat) parts) → (q : Quantity) (s : Summed q) (ess : List (List Pair)) → BehindAll q parts ess →
+      (y .heat ≡ totalOf (λ p. p .answer .heat) parts) → (q : Quantity) (s : Summed q) (ess : List (List (Entry q))) → BehindAll q parts ess →
       Near (exactYear q parts ess) (reportedYear s y) (allowedYear s (length parts) (y .hours))
   year-near a b c So2 so2 ess l = rw (a, h) (parts-near So2 (λ r. r .so2) 40_000 (lit< tt) (part-near So2) parts ess l)
   year-near a b c Co2 co2 ess l = rw (b, h) (parts-near Co2 (λ r. r .co2) 20 (lit< tt) (part-near Co2) parts ess l)

@@ -12,7 +12,7 @@ use Rattle.exact.specs.RoundingLaws.{records-rounded}
 use Rattle.exact.specs.Sums.{totalOf, Rate, amount, recordedAmount, hundredths}
 use Rattle.exact.specs.SumLaws.{total-near, mean-near}
 use Rattle.formulas.specs.Hour.{tenth, thousandth, unitOf, figureOf, HourWithin, HoursWithin}
-use Rattle.formulas.specs.Formulas.{Pair, exactValue, LiesBehind}
+use Rattle.formulas.specs.Formulas.{Entry, exactValue, LiesBehind}
 use Rattle.totals.specs.Totals.{poundsPerTon, quarterTotals}
 use Rattle.totals.specs.TotalLaws.{quarter-so2, quarter-co2, quarter-heat, quarter-nox}
 use Rattle.formulas.specs.declared.hour.Hour.{Hour}
@@ -21,33 +21,33 @@ use Rattle.formulas.specs.declared.hour.Quantity.the-variants.{Heat, So2, Nox, 
 use Rattle.checker.specs.Promise.{LieBehind, exactShare, exactSum, exactAmount, reported, allowed}
 
 module _ (q : Quantity) where
-  rate : (h : Hour) (e : Pair) → HourWithin h → LiesBehind q h e → Rate (unitOf q)
+  rate : (h : Hour) (e : Entry q) → HourWithin h → LiesBehind q h e → Rate (unitOf q)
   rate h e w b = record { value = exactValue q (h .readings) e; figure = figureOf q (h .figures); time = h .time; records = b .gives; short = w .time .most }
 
   -- the rates of a list behind the figures
-  rates : (hs : List Hour) (es : List Pair) → HoursWithin hs → LieBehind q hs es → List (Rate (unitOf q))
+  rates : (hs : List Hour) (es : List (Entry q)) → HoursWithin hs → LieBehind q hs es → List (Rate (unitOf q))
   rates [] [] w b = []
   rates [] (e ∷ es) w b = []
   rates (h ∷ hs) [] w b = []
   rates (h ∷ hs) (e ∷ es) w b = rate h e (w .0) (b .0) ∷ rates hs es (w .1) (b .1)
 
-  rates-length : (hs : List Hour) (es : List Pair) (w : HoursWithin hs) (b : LieBehind q hs es) → length (rates hs es w b) ≡ length hs
+  rates-length : (hs : List Hour) (es : List (Entry q)) (w : HoursWithin hs) (b : LieBehind q hs es) → length (rates hs es w b) ≡ length hs
   unfolding rates
   rates-length [] [] w b = refl
   rates-length [] (e ∷ es) w b = absurd b
   rates-length (h ∷ hs) [] w b = absurd b
   rates-length (h ∷ hs) (e ∷ es) w b = let l = rates-length hs es (w .1) (b .1) in omega arith
 
-  rates-total : (m : Rate (unitOf q) → ℕ) (g : Hour → ℕ) → ((h : Hour) (e : Pair) (w : HourWithin h) (b : LiesBehind q h e) → m (rate h e w b) ≡ g h) →
-      (hs : List Hour) (es : List Pair) (w : HoursWithin hs) (b : LieBehind q hs es) → totalOf m (rates hs es w b) ≡ totalOf g hs
+  rates-total : (m : Rate (unitOf q) → ℕ) (g : Hour → ℕ) → ((h : Hour) (e : Entry q) (w : HourWithin h) (b : LiesBehind q h e) → m (rate h e w b) ≡ g h) →
+      (hs : List Hour) (es : List (Entry q)) (w : HoursWithin hs) (b : LieBehind q hs es) → totalOf m (rates hs es w b) ≡ totalOf g hs
   unfolding rates totalOf
   rates-total m g same [] [] w b = refl
   rates-total m g same [] (e ∷ es) w b = absurd b
   rates-total m g same (h ∷ hs) [] w b = absurd b
   rates-total m g same (h ∷ hs) (e ∷ es) w b = ap₂ _+_ (same h e (w .0) (b .0)) (rates-total m g same hs es (w .1) (b .1))
 
-  rates-sum : (f : Rate (unitOf q) → Fraction) → ((h : Hour) (e : Pair) (w : HourWithin h) (b : LiesBehind q h e) → f (rate h e w b) ≡ exactShare q h e) →
-      (hs : List Hour) (es : List Pair) (w : HoursWithin hs) (b : LieBehind q hs es) → sumOf f (rates hs es w b) ≡ exactSum q hs es
+  rates-sum : (f : Rate (unitOf q) → Fraction) → ((h : Hour) (e : Entry q) (w : HourWithin h) (b : LiesBehind q h e) → f (rate h e w b) ≡ exactShare q h e) →
+      (hs : List Hour) (es : List (Entry q)) (w : HoursWithin hs) (b : LieBehind q hs es) → sumOf f (rates hs es w b) ≡ exactSum q hs es
   unfolding rates sumOf exactSum
   rates-sum f same [] [] w b = refl
   rates-sum f same [] (e ∷ es) w b = absurd b
@@ -56,8 +56,8 @@ module _ (q : Quantity) where
 
   -- rate × time: a total formed from the figures, over s and rounded once to tenths
   timed-bound :
-      ((h : Hour) (e : Pair) (w : HourWithin h) (b : LiesBehind q h e) → amount (rate h e w b) ≡ exactShare q h e) →
-      (s : ℕ) (hs : List Hour) (es : List Pair) → HoursWithin hs → LieBehind q hs es →
+      ((h : Hour) (e : Entry q) (w : HourWithin h) (b : LiesBehind q h e) → amount (rate h e w b) ≡ exactShare q h e) →
+      (s : ℕ) (hs : List Hour) (es : List (Entry q)) → HoursWithin hs → LieBehind q hs es →
       Near (exactSum q hs es ÷ whole s)
       (recorded tenth (halfUp tenth (hundredths (unitOf q) (totalOf (λ h. figureOf q (h .figures) * h .time) hs) ÷ whole s)))
       ((halves (unitOf q) (length hs) ÷ whole s) ⊕ half tenth)
@@ -68,7 +68,7 @@ module _ (q : Quantity) where
       rw (rates-sum amount same hs es w b, t, rates-length hs es w b)
       at (total-near (unitOf q) tenth s l _ (records-rounded tenth (hundredths (unitOf q) (totalOf recordedAmount l) ÷ whole s)))
 
-mean-bound : (hs : List Hour) (es : List Pair) → HoursWithin hs → LieBehind Nox hs es →
+mean-bound : (hs : List Hour) (es : List (Entry Nox)) → HoursWithin hs → LieBehind Nox hs es →
     Near (exactSum Nox hs es ÷ whole (length hs))
     (recorded thousandth (halfUp thousandth (recorded thousandth (totalOf (λ h. h .figures .nox) hs) ÷ whole (length hs))))
     (plain thousandth)
@@ -88,7 +88,7 @@ plain-share : (n : ℕ) → ((halves tenth n ÷ whole 1) ⊕ half tenth) ≤ᶠ 
 unfolding over
 plain-share n = omega arith
 
-pub amount-bound : (q : Quantity) (hs : List Hour) (es : List Pair) → HoursWithin hs → LieBehind q hs es →
+pub amount-bound : (q : Quantity) (hs : List Hour) (es : List (Entry q)) → HoursWithin hs → LieBehind q hs es →
     Near (exactAmount q hs es) (reported q (quarterTotals hs)) (allowed q (length hs))
 unfolding rate
 amount-bound Heat hs es w b = rw (quarter-heat hs) (near-weaken (timed-bound Heat (λ h e x y. refl) 1 hs es w b) (plain-share (length hs)))

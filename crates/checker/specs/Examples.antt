@@ -10,10 +10,10 @@ use Rattle.exact.specs.Behind.{meets}
 use Rattle.exact.specs.Sums.{totalOf}
 use Rattle.columns.specs.Bytes.{all, same}
 use Rattle.columns.specs.Columns.{columns, put}
-use Rattle.columns.specs.Number.{digitsFrom, wholeOf, decimalsBehind, fixedOf, fieldOf, numberOf}
+use Rattle.columns.specs.Number.{digitsFrom, wholeOf, decimalsBehind, fixedOf, fieldOf, isEmpty, numberOf}
 use Rattle.columns.specs.Written.{digitsOf}
 use Rattle.calendar.specs.Calendar.{leapYear, daysInMonth, inQuarter, daysBefore, hourOfQuarter, quarterHour}
-use Rattle.layout.specs.Layout.{noxTons, lengthOf, dateColumn, hourly, order, shape, offsetOf, within}
+use Rattle.layout.specs.Layout.{so2Ppm, so2Rate, noxTons, lengthOf, dateColumn, hourly, order, shape, offsetOf, within}
 use Rattle.layout.specs.declared.RecordType.{RecordType}
 use Rattle.layout.specs.declared.RecordType.the-variants.{So2Concentration, NoxConcentration, Co2Concentration, VolumetricFlow, Operation}
 use Rattle.layout.specs.declared.RecordType.the-variants.{QuarterTotals, So2Mass, NoxRate, Co2Mass}
@@ -23,7 +23,7 @@ use Rattle.totals.specs.Totals.{totalsOf, meanOf, quarterOf, quarterTotals}
 use Rattle.lines.specs.Lines.{onto, lines, last}
 use Rattle.lines.specs.LineFaults.{typeIs, shapeFault, stackFault, commonFault, fieldFault, valuesFault, digitsIn}
 use Rattle.lines.specs.LineFaults.{facilityFault, facilityLine, risingFault, datedFault, hourFault, hourNumber, hourLine, dateFault, dueFault}
-use Rattle.lines.specs.LineFaults.{operates, idleFault, operatingFault, timedFault, operationFault, saidOf, operationLine}
+use Rattle.lines.specs.LineFaults.{so2Fault, hasGas, so2Blank, gasFault, operates, idleFault, operatingFault, timedFault, operationFault, saidOf, operationLine}
 use Rattle.reading.specs.Reading.{runOf, runsOf, walkDue, endOperations, walkOperations, walkEnd, walkLast, walkListed, walkLater, walkHours, walk, readOf}
 use Rattle.reading.specs.Idle.{withoutIdle, WithoutIdle}
 use Rattle.reading.specs.Recorded.{linesWith, idle, recordsOf, valueOn, hourAt, hoursOf, totalsIn}
@@ -216,6 +216,45 @@ pub idle-left-out : WithoutIdle (withListed (idleLine 0 ++ operatingLine 1 ++ id
 unfolding workedHour put listed withListed digitsOf same onto lines last typeIs columns digitsFrom wholeOf decimalsBehind fixedOf fieldOf numberOf operates idle withoutIdle
 idle-left-out = record { lines = refl; last = refl }
 
+-- the worked hour on pipeline natural gas: no SO2 reading, GAS, SO2 0.8 lb/hr beside heat 1,333.3, and SO2 tons 0.0
+abbrev pub gasHour : List ℕ
+gasHour =
+    put (start So2Concentration + so2Ppm .start) (replicate (so2Ppm .width) 32)
+    (put (start QuarterTotals + 20) (48 ∷ [])
+    (changed So2Mass (so2Rate .start) (32 ∷ 32 ∷ 32 ∷ 32 ∷ 48 ∷ 46 ∷ 56 ∷ 71 ∷ 65 ∷ 83 ∷ [])))
+
+abbrev pub gasChanged : RecordType → ℕ → List ℕ → List ℕ
+gasChanged t column bytes = put (start t + column) bytes gasHour
+
+-- the worked hour, monitored, with GAS
+abbrev pub gasNamed : List ℕ
+gasNamed = changed So2Mass 32 (71 ∷ 65 ∷ 83 ∷ [])
+
+abbrev pub gasDamages : List Damage
+gasDamages =
+    -- SO2 0.7 and 0.9, which no heat of 1,333.3 gives; heat input 1,933.3 before SO2; SO2 tons 0.2
+    record { file = gasChanged So2Mass 31 (55 ∷ []); number = 12; line = 8 }
+    ∷ record { file = gasChanged So2Mass 31 (57 ∷ []); number = 12; line = 8 }
+    ∷ record { file = put (start Operation + 38) (57 ∷ []) (gasChanged So2Mass 31 (57 ∷ [])); number = 11; line = 6 }
+    ∷ record { file = gasChanged QuarterTotals 20 (50 ∷ []); number = 21; line = 7 }
+    -- no SO2 reading, and gas, GAX, XAS, blank GA or nothing for GAS
+    ∷ record { file = gasChanged So2Mass 32 (103 ∷ 97 ∷ 115 ∷ []); number = 49; line = 8 }
+    ∷ record { file = gasChanged So2Mass 34 (88 ∷ []); number = 49; line = 8 }
+    ∷ record { file = gasChanged So2Mass 32 (88 ∷ []); number = 49; line = 8 }
+    ∷ record { file = gasChanged So2Mass 32 (32 ∷ 71 ∷ 65 ∷ []); number = 49; line = 8 }
+    ∷ record { file = gasChanged So2Mass 32 (32 ∷ 32 ∷ 32 ∷ []); number = 49; line = 8 }
+    -- GAS beside an SO2 reading; before its value, 830 0, and behind its hour, 01
+    ∷ record { file = gasNamed; number = 49; line = 8 }
+    ∷ record { file = put (start So2Mass + 30) (32 ∷ []) gasNamed; number = 49; line = 8 }
+    ∷ record { file = put (start So2Mass + 17) (49 ∷ []) gasNamed; number = 7; line = 8 }
+    -- no point in SO2 of a gas hour; a reading that is none, with GAS and without
+    ∷ record { file = gasChanged So2Mass 30 (48 ∷ []); number = 8; line = 8 }
+    ∷ record { file = gasChanged So2Concentration 40 (120 ∷ []); number = 8; line = 2 }
+    ∷ record { file = changed So2Concentration 40 (120 ∷ []); number = 8; line = 2 }
+    -- no NOx reading in a gas hour
+    ∷ record { file = gasChanged NoxConcentration 29 (replicate 6 32); number = 8; line = 3 }
+    ∷ []
+
 unfoldable pub allAnswered : List (List ℕ) → List ℕ → Bool
 allAnswered [] numbers = true
 allAnswered (f ∷ fs) numbers = same (numbersOf (checked f)) numbers && allAnswered fs numbers
@@ -224,10 +263,10 @@ unfoldable pub allNamed : List Damage → Bool
 allNamed [] = true
 allNamed (d ∷ ds) = same (numbersOf (checked (d .file))) (refusal (d .number) (d .line)) && allNamed ds
 
--- what the check answers to the worked hour (also with 829.8, 830.1 and 830.2 lb/hr, and with idle hours about it), to the empty quarter (also
--- with idle hours alone) and to the damaged files
+-- what the check answers to the worked hour (also with 829.8, 830.1 and 830.2 lb/hr, with GAX for GAS, and with idle hours about it), to the
+-- empty quarter (also with idle hours alone), to the gas hour and to the damaged files
 pub answers : (numbersOf (checked workedHour) ≡ 1 ∷ 2 ∷ 684 ∷ 6667 ∷ 358 ∷ 1 ∷ [])
-    × (allAnswered (lowest ∷ between ∷ highest ∷ []) (1 ∷ 2 ∷ 684 ∷ 6667 ∷ 358 ∷ 1 ∷ []) ≡ true)
+    × (allAnswered (lowest ∷ between ∷ highest ∷ changed So2Mass 32 (71 ∷ 65 ∷ 88 ∷ []) ∷ []) (1 ∷ 2 ∷ 684 ∷ 6667 ∷ 358 ∷ 1 ∷ []) ≡ true)
     × (numbersOf (checked emptyQuarter) ≡ 0 ∷ 0 ∷ 0 ∷ 0 ∷ 0 ∷ 0 ∷ [])
     × (allNamed damages ≡ true)
     × (allAnswered (withListed (operatingLine 1) ∷ withListed (idleLine 0 ++ operatingLine 1) ∷ withListed
@@ -235,11 +274,13 @@ pub answers : (numbersOf (checked workedHour) ≡ 1 ∷ 2 ∷ 684 ∷ 6667 ∷ 3
     (1 ∷ 2 ∷ 684 ∷ 6667 ∷ 358 ∷ 1 ∷ []) ≡ true)
     × (numbersOf (checked (emptyListed (idleLine 0 ++ idleLine 1 ++ idleLine 9))) ≡ 0 ∷ 0 ∷ 0 ∷ 0 ∷ 0 ∷ 0 ∷ [])
     × (allNamed idleDamages ≡ true)
+    × (numbersOf (checked gasHour) ≡ 1 ∷ 0 ∷ 684 ∷ 6667 ∷ 358 ∷ 1 ∷ [])
+    × (allNamed gasDamages ≡ true)
 unfolding workedHour emptyQuarter allAnswered allNamed put listed withListed emptyListed
     over meets totalOf all same columns digitsFrom wholeOf decimalsBehind fixedOf fieldOf numberOf digitsOf leapYear daysInMonth inQuarter daysBefore
     hourOfQuarter quarterHour numberHour fieldHour stampHour passesTest totalsOf meanOf quarterOf quarterTotals onto lines last typeIs shapeFault
     stackFault commonFault within fieldFault valuesFault digitsIn facilityFault facilityLine risingFault datedFault hourFault hourNumber hourLine dateFault
     dueFault operates idleFault operatingFault timedFault operationFault saidOf operationLine runOf runsOf walkDue endOperations walkOperations walkEnd
     walkLast walkListed walkLater walkHours walk readOf linesWith idle recordsOf valueOn hourAt ranked hoursOf totalsIn judgedFigures judgedHours
-    firstDiffering comparedTotals judged afterReading checked
-answers = (refl, refl, refl, refl, refl, refl, refl)
+    firstDiffering comparedTotals judged afterReading checked isEmpty so2Fault hasGas so2Blank gasFault
+answers = (refl, refl, refl, refl, refl, refl, refl, refl, refl)

@@ -13,7 +13,7 @@ use Rattle.exact.specs.Logic.{All}
 use Rattle.exact.specs.Fraction.{Fraction, _⊕_, _⊗_, _÷_, fraction, whole, Near}
 use Rattle.exact.specs.Rounding.{recorded}
 use Rattle.formulas.specs.Hour.{tenth, thousandth, Unrounded}
-use Rattle.formulas.specs.Formulas.{Pair, pairOf, exactValue, LiesBehind}
+use Rattle.formulas.specs.Formulas.{Entry, entryOf, exactValue, LiesBehind}
 use Rattle.totals.specs.Totals.{poundsPerTon, quarterTotals}
 use Rattle.totals.specs.Mass.{massTons}
 use Rattle.layout.specs.declared.RecordType.the-variants.{Operation, QuarterTotals}
@@ -30,19 +30,20 @@ use Rattle.reading.specs.declared.Report.{Report}
 use Rattle.checker.specs.Checked.{Stated, statedTotals, acceptance, refusal, numbersOf, numberFor, lineFor}
 use Rattle.checker.specs.declared.Answer.{Answer}
 
--- a list lies behind a quantity's hourly figures: one pair of readings for each hour, in order, each behind its hour's figure
-abbrev pub LieBehind : Quantity → List Hour → List Pair → Type 0
+-- a list lies behind a quantity's hourly figures: one pair of readings, or a gas hour's heat, for each hour, in order, each behind
+-- its hour's figure
+abbrev pub LieBehind : (q : Quantity) → List Hour → List (Entry q) → Type 0
 LieBehind q [] [] = Unit {0}
-LieBehind q [] (p ∷ ps) = ⊥
+LieBehind q [] (e ∷ es) = ⊥
 LieBehind q (h ∷ hs) [] = ⊥
-LieBehind q (h ∷ hs) (p ∷ ps) = LiesBehind q h p × LieBehind q hs ps
+LieBehind q (h ∷ hs) (e ∷ es) = LiesBehind q h e × LieBehind q hs es
 
 -- one set for each hour, in order, each behind all four figures of its hour
 abbrev pub SetsBehind : List Hour → List Unrounded → Type 0
 SetsBehind [] [] = Unit {0}
 SetsBehind [] (s ∷ ss) = ⊥
 SetsBehind (h ∷ hs) [] = ⊥
-SetsBehind (h ∷ hs) (s ∷ ss) = ((q : Quantity) → LiesBehind q h (pairOf q s)) × SetsBehind hs ss
+SetsBehind (h ∷ hs) (s ∷ ss) = ((q : Quantity) → LiesBehind q h (entryOf q s)) × SetsBehind hs ss
 
 -- "honestly rounded from" (the paper)
 pub record HonestlyRounded (file : List ℕ) (sets : List Unrounded) : Type 0 where
@@ -52,16 +53,16 @@ pub record HonestlyRounded (file : List ℕ) (sets : List Unrounded) : Type 0 wh
   pub totals : totalsIn file ≡ quarterTotals (hoursOf file)
 
 -- The exact amount: rate × time summed, for SO2 over 2,000; for NOx the plain mean of the rates. 0 for no hour.
-abbrev pub exactShare : Quantity → Hour → Pair → Fraction
-exactShare Nox h p = exactValue Nox (h .readings) p
-exactShare Heat h p = exactValue Heat (h .readings) p ⊗ fraction (h .time) 100 (lit< tt)
-exactShare So2 h p = exactValue So2 (h .readings) p ⊗ fraction (h .time) 100 (lit< tt)
-exactShare Co2 h p = exactValue Co2 (h .readings) p ⊗ fraction (h .time) 100 (lit< tt)
+abbrev pub exactShare : (q : Quantity) → Hour → Entry q → Fraction
+exactShare Nox h e = exactValue Nox (h .readings) e
+exactShare Heat h e = exactValue Heat (h .readings) e ⊗ fraction (h .time) 100 (lit< tt)
+exactShare So2 h e = exactValue So2 (h .readings) e ⊗ fraction (h .time) 100 (lit< tt)
+exactShare Co2 h e = exactValue Co2 (h .readings) e ⊗ fraction (h .time) 100 (lit< tt)
 
-unfoldable pub exactSum : Quantity → List Hour → List Pair → Fraction
-exactSum q [] ps = whole 0
+unfoldable pub exactSum : (q : Quantity) → List Hour → List (Entry q) → Fraction
+exactSum q [] es = whole 0
 exactSum q (h ∷ hs) [] = whole 0
-exactSum q (h ∷ hs) (p ∷ ps) = exactShare q h p ⊕ exactSum q hs ps
+exactSum q (h ∷ hs) (e ∷ es) = exactShare q h e ⊕ exactSum q hs es
 
 abbrev pub divisorOf : Quantity → ℕ → ℕ
 divisorOf Heat n = 1
@@ -69,8 +70,8 @@ divisorOf So2 n = poundsPerTon
 divisorOf Nox n = n
 divisorOf Co2 n = 1
 
-abbrev pub exactAmount : Quantity → List Hour → List Pair → Fraction
-exactAmount q hs ps = exactSum q hs ps ÷ whole (divisorOf q (length hs))
+abbrev pub exactAmount : (q : Quantity) → List Hour → List (Entry q) → Fraction
+exactAmount q hs es = exactSum q hs es ÷ whole (divisorOf q (length hs))
 
 -- the reported amount, and how far the exact one may lie from it
 abbrev pub reported : Quantity → Quarter → Fraction
@@ -96,7 +97,7 @@ pub record FailsAt (file : List ℕ) (q : Quantity) (line : ℕ) : Type 0 where
   pub hour : ℕ
   pub exists : hour < hourCount file
   pub own : line ≡ lineFor file q hour
-  pub nothing : (p : Pair) → LiesBehind q (hourAt file hour) p → ⊥
+  pub nothing : (e : Entry q) → LiesBehind q (hourAt file hour) e → ⊥
 
 -- of some totals, left to right, the first that differs from the one formed is that of this number
 abbrev pub FirstDiffers : List Stated → (formed said : Quarter) → ℕ → Type 0
@@ -113,9 +114,9 @@ pub record DiffersAt (file : List ℕ) (number line : ℕ) : Type 0 where
 
 pub record Promise (file : List ℕ) (answer : Answer) : Type 0 where
   pub honest : (sets : List Unrounded) → HonestlyRounded file sets → (r : Quarter) × (numbersOf answer ≡ acceptance r)
-  pub behind : (r : Quarter) → numbersOf answer ≡ acceptance r → (q : Quantity) → (ps : List Pair) × LieBehind q (hoursOf file) ps
-  pub bounds : (r : Quarter) → numbersOf answer ≡ acceptance r → (q : Quantity) (ps : List Pair) → LieBehind q (hoursOf file) ps →
-      Near (exactAmount q (hoursOf file) ps) (reported q r) (allowed q (r .hours))
+  pub behind : (r : Quarter) → numbersOf answer ≡ acceptance r → (q : Quantity) → (es : List (Entry q)) × LieBehind q (hoursOf file) es
+  pub bounds : (r : Quarter) → numbersOf answer ≡ acceptance r → (q : Quantity) (es : List (Entry q)) → LieBehind q (hoursOf file) es →
+      Near (exactAmount q (hoursOf file) es) (reported q r) (allowed q (r .hours))
   -- NOx tons are of recorded figures: no hour has a share in the bound
   pub mass : (r : Quarter) → numbersOf answer ≡ acceptance r → Near (massTons (hoursOf file)) (recorded tenth (r .«nox_tons»)) (fraction 1 20 (lit< tt))
   pub rightly : (q : Quantity) (line : ℕ) → numbersOf answer ≡ refusal (numberFor q) line → FailsAt file q line

@@ -12,7 +12,7 @@ use Rattle.exact.specs.Logic.{ranked-length, All, ranked-all}
 use Rattle.exact.specs.Fraction.{fraction, Near}
 use Rattle.exact.specs.Rounding.{recorded}
 use Rattle.formulas.specs.Hour.{tenth, HourWithin, HoursWithin, Unrounded}
-use Rattle.formulas.specs.Formulas.{Pair, pairOf}
+use Rattle.formulas.specs.Formulas.{Entry, entryOf}
 use Rattle.formulas.specs.FormulaLaws.{test-exact}
 use Rattle.totals.specs.Totals.{quarterTotals}
 use Rattle.totals.specs.TotalLaws.{quarter-hours}
@@ -51,7 +51,7 @@ all-within file r c =
     (omega (arith, hours-standing file (r .shape) (c .standing)))
 
 -- behind figures that pass lie readings, and figures behind which readings lie pass
-pass-behind : (q : Quantity) (hs : List Hour) → HoursWithin hs → AllPass hs → (es : List Pair) × LieBehind q hs es
+pass-behind : (q : Quantity) (hs : List Hour) → HoursWithin hs → AllPass hs → (es : List (Entry q)) × LieBehind q hs es
 unfolding Passes
 pass-behind q [] w p = ([], tt)
 pass-behind q (h ∷ hs) w p =
@@ -64,7 +64,7 @@ unfolding Passes
 behind-pass [] [] w b = tt
 behind-pass [] (s ∷ ss) w b = absurd b
 behind-pass (h ∷ hs) [] w b = absurd b
-behind-pass (h ∷ hs) (s ∷ ss) w b = ((λ q. test-exact q h (w .0 .readings) .1 (pairOf q s, b .0 q)), behind-pass hs ss (w .1) (b .1))
+behind-pass (h ∷ hs) (s ∷ ss) w b = ((λ q. test-exact q h (w .0 .readings) .1 (entryOf q s, b .0 q)), behind-pass hs ss (w .1) (b .1))
 
 -- what an acceptance says
 pub record Facts (file : List ℕ) (r : Quarter) : Type 0 where
@@ -155,7 +155,7 @@ module _ (file : List ℕ) (r : Quarter) (e : checked file ≡ Accepted r) where
   accepted-within : HoursWithin (hoursOf file)
   accepted-within = let f = accepted-facts file r e in all-within file (f .report) (clean-file file (f .report) (f .clean))
 
-  accepted-behind : (q : Quantity) → (es : List Pair) × LieBehind q (hoursOf file) es
+  accepted-behind : (q : Quantity) → (es : List (Entry q)) × LieBehind q (hoursOf file) es
   accepted-behind q = pass-behind q (hoursOf file) accepted-within (accepted-facts file r e .pass)
 
   accepted-count : r .hours ≡ hourCount file
@@ -168,7 +168,7 @@ module _ (file : List ℕ) (r : Quarter) (e : checked file ≡ Accepted r) where
       let d = clean-file file (f .report) (f .clean) .standing in
       accepted-count ∙ hours-standing file (f .report .shape) d ∙ sym (d .operating) ∙ ap length (operating-lines file)
 
-  accepted-bounds : (q : Quantity) (es : List Pair) → LieBehind q (hoursOf file) es →
+  accepted-bounds : (q : Quantity) (es : List (Entry q)) → LieBehind q (hoursOf file) es →
       Near (exactAmount q (hoursOf file) es) (reported q r) (allowed q (r .hours))
   accepted-bounds q es b =
       subst₂ (λ (x : Quarter) (n : ℕ). Near (exactAmount q (hoursOf file) es) (reported q x) (allowed q n)) (accepted-facts file r e .formed)

@@ -14,7 +14,7 @@ use Rattle.checker.specs.Checked.{Stated, statedTotals, acceptance, refu
 
 pub data InTable (file : List ℕ) : List ℕ → Type 0 where
   accepted : (r : Quarter) → InTable file (acceptance r)
-  -- 1 to 10, 43 and 47: the file or a line
+  -- 1 to 10, 43, 47 and 49: the file or a line
   ofLines : (number line : ℕ) → Refuses file number line → InTable file (refusal number line)
   -- 11 to 14: a figure, on a line of its type
   ofFigure : (q : Quantity) (line : ℕ) → HasRecord file (typeFor q) line → InTable file (refusal (numberFor q) line)

@@ -1,7 +1,7 @@
 -- What a field of columns holds: nothing, a number of format I or F.d, or something else.
 use Prim.Native.Nat.{ℕ, zero, suc, _+_, _*_, _-_}
 use mathlib.Core.List.{List, [], _∷_}
-use mathlib.Core.Bool.{true, false}
+use mathlib.Core.Bool.{Bool, true, false}
 use lib.Dec.{eqb}
 use lib.ListN.{length, take, drop}
 use Rattle.columns.specs.Bytes.{isBlank, isDigit, all}
@@ -39,6 +39,12 @@ fixedOf d bs =
 unfoldable pub fieldOf : ℕ → List ℕ → Field
 fieldOf zero bs = wholeOf bs
 fieldOf (suc d) bs = fixedOf (suc d) bs
+
+-- whether a field holds nothing
+unfoldable pub isEmpty : Field → Bool
+isEmpty Blank = true
+isEmpty Malformed = false
+isEmpty (Number v) = false
 
 -- the number in a field, 0 where there is none
 unfoldable pub numberOf : Field → ℕ

@@ -1,6 +1,6 @@
 -- Laws of numbers read: how large a number the columns of a field hold.
 use Prim.Native.Nat.{ℕ, zero, suc, _+_, _*_, _-_, _≤_, _<_, _^_}
-use mathlib.Core.Path.{_≡_, refl}
+use mathlib.Core.Path.{_≡_, refl, sym, _∙_}
 use mathlib.Core.Logic.{_↔_}
 use mathlib.Core.List.{List, [], _∷_}
 use mathlib.Core.Bool.{Bool, true, false, _&&_}
@@ -13,7 +13,7 @@ use lib.Seq.{length-take-le}
 use borrow.Author.Tests.{leb-true}
 use Rattle.columns.specs.Bytes.{isBlank, isDigit, all}
 use Rattle.columns.specs.BytesLaws.{all-append, all-take, all-drop}
-use Rattle.columns.specs.Number.{digitsFrom, digitsOnly, wholeOf, decimalsBehind, fixedOf, fieldOf, numberOf, digitsHeld, fewestColumns}
+use Rattle.columns.specs.Number.{digitsFrom, digitsOnly, wholeOf, decimalsBehind, fixedOf, fieldOf, isEmpty, numberOf, digitsHeld, fewestColumns}
 use Rattle.columns.specs.Columns.{columns}
 use Rattle.columns.specs.ColumnsLaws.{columns-length}
 use Rattle.columns.specs.declared.Field.{Field}
@@ -175,6 +175,22 @@ pub field-blank : (d : ℕ) (bs : List ℕ) → (fieldOf d bs ≡ Blank) ↔ (al
 unfolding fieldOf
 field-blank zero bs = (blank-whole bs, whole-blank bs)
 field-blank (suc d) bs = (blank-fixed (suc d) bs, fixed-blank (suc d) bs)
+
+pub field-empty : (d : ℕ) (bs : List ℕ) → isEmpty (fieldOf d bs) ≡ all isBlank bs
+unfolding isEmpty
+field-empty d bs = go (fieldOf d bs) refl
+  where
+    other : {f : Field} → fieldOf d bs ≡ f → (f ≡ Blank → ⊥) → all isBlank bs ≡ false
+    other e n = go2 (all isBlank bs) refl
+      where
+        go2 : (t : Bool) → all isBlank bs ≡ t → t ≡ false
+        go2 true g = absurd (n (sym e ∙ field-blank d bs .1 g))
+        go2 false g = refl
+
+    go : (f : Field) → fieldOf d bs ≡ f → isEmpty f ≡ all isBlank bs
+    go Blank e = sym (field-blank d bs .0 e)
+    go Malformed e = sym (other e (λ g. clash (cc)))
+    go (Number k) e = sym (other e (λ g. clash (cc)))
 
 -- the two formats
 pub field-whole : (d : ℕ) (bs : List ℕ) → d ≡ 0 → fieldOf d bs ≡ wholeOf bs

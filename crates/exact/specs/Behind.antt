@@ -1,6 +1,6 @@
--- What lies behind a figure: values of two spans whose product, or whose quotient, times a factor lies in a target range.
+-- What lies behind a figure: a value of a span, or values of two whose product or quotient, times a factor lies in a target range.
 -- A target is any half-open range; a figure's own span is one, and so is what two figures' spans have in common.
--- Definitions only; ProductLaw.antt and QuotientLaw.antt prove the tests exact.
+-- Definitions only; ScaleLaw.antt, ProductLaw.antt and QuotientLaw.antt prove the tests exact.
 use mathlib.Core.Bool.{Bool, _&&_}
 use Prim.Native.Nat.{ℕ, _*_, _<_}
 use lib.Dec.{ltb}
@@ -14,6 +14,12 @@ product c x y = plain c ⊗ (x ⊗ y)
 -- c·x/z, rising in x and falling in z
 abbrev pub ratio : Positive → Fraction → Fraction → Fraction
 ratio c x z = (plain c ⊗ x) ÷ z
+
+-- c·x, of one reading
+pub record BehindScale (c : Positive) (s r : Span) : Type 0 where
+  pub reading : Fraction
+  pub reading-in : In s reading
+  pub value-in : In r (plain c ⊗ reading)
 
 pub record BehindProduct (c : Positive) (s t r : Span) : Type 0 where
   pub left : Fraction
@@ -37,6 +43,15 @@ pub record BehindRatio (c : Positive) (s : Span) (D : Fraction → Type 0) (r : 
 -- the values from `low` to `high` meet the range from `from` up to but not including `below`
 unfoldable pub meets : (low high from below : ℕ) → Bool
 meets low high from below = ltb low below && ltb from high
+
+-- c·x at the lowest and at the highest reading against the target, over one denominator
+abbrev pub scaleMeets : (num den : ℕ) → Span → Span → Bool
+scaleMeets num den s r =
+    meets
+    (num * s .from * r .scale)
+    (num * s .below * r .scale)
+    (r .from * (den * s .scale))
+    (r .below * (den * s .scale))
 
 -- c·x·y at the lowest and at the highest readings against the target, over one denominator
 abbrev pub productMeets : (num den : ℕ) → Span → Span → Span → Bool

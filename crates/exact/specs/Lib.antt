@@ -7,6 +7,7 @@ pub mod RoundingLaws
 pub mod Behind
 pub mod MeetsLaws
 pub mod Choose
+pub mod ScaleLaw
 pub mod ProductLaw
 pub mod QuotientLaw
 pub mod Sums

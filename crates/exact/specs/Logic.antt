@@ -1,6 +1,6 @@
 -- Small logic for the crates above: two tests joined, lists by the rank of their members, a statement of every member.
-use mathlib.Core.Path.{_≡_, refl, ap}
-use mathlib.Core.Bool.{Bool, true, false, _&&_, _||_, true-and, false-and, true≢false, false≢true}
+use mathlib.Core.Path.{_≡_, refl, sym, ap}
+use mathlib.Core.Bool.{Bool, true, false, cond, not, _&&_, _||_, true-and, false-and, true≢false, false≢true}
 use mathlib.Core.Logic.{⊎-elim}
 use mathlib.Core.List.{List, [], _∷_, map, List·Memᴰ, List·Memᴰ·not-nil, List·Memᴰ·cases-cons}
 use Prim.Native.Nat.{ℕ, zero, suc, _+_, _-_, _≤_, _<_}
@@ -16,6 +16,16 @@ both false q e = absurd (false≢true (rw false-and at e))
 pub neither : (p q : Bool) → (p || q) ≡ false → (p ≡ false) × (q ≡ false)
 neither true q e = absurd (true≢false e)
 neither false q e = (refl, e)
+
+-- two tests give the same
+abbrev pub agree : Bool → Bool → Bool
+agree p q = cond p q (not q)
+
+pub agreed : (p q : Bool) → agree p q ≡ true → p ≡ q
+agreed true true e = refl
+agreed true false e = sym e
+agreed false true e = e
+agreed false false e = refl
 
 -- those of rank k, k + 1, ..: so many
 unfoldable pub ranked : {A : Type 0} → (ℕ → A) → (k left : ℕ) → List A

@@ -1,15 +1,15 @@
 -- The four equations of 40 CFR Part 75, Appendix F, as data: a product or a quotient of two readings, with its factor. From them, once
 -- for a product and once for a quotient: the exact value, what lies behind a figure, the test of a figure, the rounded value.
--- FormulaLaws.antt proves the test exact.
+-- In a gas hour SO2 is a factor times the heat. FormulaLaws.antt proves the test exact.
 use mathlib.Core.Path.{_≡_}
-use mathlib.Core.Bool.{Bool, true}
+use mathlib.Core.Bool.{Bool, true, false, cond}
 use mathlib.Core.Logic.{_↔_}
 use Prim.Native.Nat.{ℕ}
 use lib.Dec.{lit<}
-use Rattle.exact.specs.Fraction.{Fraction, Positive, _⊗_, _÷_, fraction, whole}
+use Rattle.exact.specs.Fraction.{Fraction, Positive, _⊗_, _÷_, fraction, whole, plain}
 use Rattle.exact.specs.Rounding.{Span, Records, recorded, span, halfUp}
-use Rattle.exact.specs.Behind.{productMeets, ratioMeets}
-use Rattle.formulas.specs.Hour.{tenth, flowUnit, unitOf, figureOf, Unrounded}
+use Rattle.exact.specs.Behind.{scaleMeets, productMeets, ratioMeets}
+use Rattle.formulas.specs.Hour.{tenth, flowUnit, unitOf, figureOf, Monitored, So2Reading, concentration, heatInput, Unrounded, setOf}
 use Rattle.formulas.specs.declared.Form.{Form}
 use Rattle.formulas.specs.declared.Form.the-variants.{Product, Quotient}
 use Rattle.formulas.specs.declared.hour.Readings.{Readings}
@@ -68,17 +68,37 @@ equationOf Co2 r = record {
   right = thousands (r .flow);
 }
 
+-- SO2 of a gas hour: 0.0006 lb/mmBtu × heat, the default for pipeline natural gas (source document 004)
+abbrev pub gasFactor : Positive
+gasFactor = record { num = 6; den = 10_000; above = lit< tt; pos = lit< tt }
+
 -- two unrounded readings, for the two of an equation
 pub record Pair : Type 0 where
   pub left : Fraction
   pub right : Fraction
 
--- those of a set that a quantity's equation uses
-abbrev pub pairOf : Quantity → Unrounded → Pair
-pairOf Heat u = record { left = u .co2; right = u .flow }
-pairOf So2 u = record { left = u .so2; right = u .flow }
-pairOf Nox u = record { left = u .nox; right = u .co2 }
-pairOf Co2 u = record { left = u .co2; right = u .flow }
+-- what an SO2 figure is worked out from: two readings of monitors or, in a gas hour, a heat
+pub data So2Entry : Type 0 where
+  monitored : Pair → So2Entry
+  fromHeat : Fraction → So2Entry
+
+-- what a quantity's figure is worked out from
+abbrev pub Entry : Quantity → Type 0
+Entry Heat = Pair
+Entry So2 = So2Entry
+Entry Nox = Pair
+Entry Co2 = Pair
+
+abbrev so2Entry : So2Reading → (flow : Fraction) → So2Entry
+so2Entry (concentration x) flow = monitored (record { left = x; right = flow })
+so2Entry (heatInput x) flow = fromHeat x
+
+-- those of a set that a quantity's figure uses
+abbrev pub entryOf : (q : Quantity) → Unrounded → Entry q
+entryOf Heat u = record { left = u .co2; right = u .flow }
+entryOf So2 u = so2Entry (u .so2) (u .flow)
+entryOf Nox u = record { left = u .nox; right = u .co2 }
+entryOf Co2 u = record { left = u .co2; right = u .flow }
 
 abbrev pub formValue : Form → (factor left right : Fraction) → Fraction
 formValue Product c x y = c ⊗ (x ⊗ y)
@@ -88,18 +108,31 @@ formValue Quotient c x z = (c ⊗ x) ÷ z
 abbrev pub equationValue : Equation → Pair → Fraction
 equationValue e p = formValue (e .form) (e .factor) (p .left) (p .right)
 
-abbrev pub exactValue : Quantity → Readings → Pair → Fraction
-exactValue q r p = equationValue (equationOf q r) p
+-- a figure's exact value
+abbrev pub exactValue : (q : Quantity) → Readings → Entry q → Fraction
+exactValue Heat r p = equationValue (equationOf Heat r) p
+exactValue So2 r (monitored p) = equationValue (equationOf So2 r) p
+exactValue So2 r (fromHeat x) = plain gasFactor ⊗ x
+exactValue Nox r p = equationValue (equationOf Nox r) p
+exactValue Co2 r p = equationValue (equationOf Co2 r) p
 
 -- unrounded readings round to an equation's recorded ones
-pub record RoundsTo (e : Equation) (p : Pair) : Type 0 where
+pub record PairRounds (e : Equation) (p : Pair) : Type 0 where
   pub left : Records (e .left .unit) (p .left) (e .left .count)
   pub right : Records (e .right .unit) (p .right) (e .right .count)
 
+-- unrounded readings round to an hour's recorded ones; for SO2 of a gas hour, and of no other, a heat records as the hour's heat
+abbrev pub RoundsTo : (q : Quantity) → Hour → Entry q → Type 0
+RoundsTo Heat h p = PairRounds (equationOf Heat (h .readings)) p
+RoundsTo So2 h (monitored p) = (h .gas ≡ false) × PairRounds (equationOf So2 (h .readings)) p
+RoundsTo So2 h (fromHeat x) = (h .gas ≡ true) × Records tenth x (h .figures .heat)
+RoundsTo Nox h p = PairRounds (equationOf Nox (h .readings)) p
+RoundsTo Co2 h p = PairRounds (equationOf Co2 (h .readings)) p
+
 -- "lies behind" (the paper): unrounded readings round to the recorded ones, and their formula value rounds to the figure
-pub record LiesBehind (q : Quantity) (h : Hour) (p : Pair) : Type 0 where
-  pub reads : RoundsTo (equationOf q (h .readings)) p
-  pub gives : Records (unitOf q) (exactValue q (h .readings) p) (figureOf q (h .figures))
+pub record LiesBehind (q : Quantity) (h : Hour) (e : Entry q) : Type 0 where
+  pub reads : RoundsTo q h e
+  pub gives : Records (unitOf q) (exactValue q (h .readings) e) (figureOf q (h .figures))
 
 abbrev pub spanOf : UnitCount → Span
 spanOf m = span (m .unit) (m .count)
@@ -112,26 +145,37 @@ formMeets Quotient num den s t r = ratioMeets num den s t r
 abbrev pub equationMeets : Equation → Span → Bool
 equationMeets e r = formMeets (e .form) (e .factor .num) (e .factor .den) (spanOf (e .left)) (spanOf (e .right)) r
 
--- the test of a figure: the values that the equation takes over the readings' spans meet the figure's span
+-- the values that the equation takes over the readings' spans meet the figure's span
+abbrev pub readingsMeet : Quantity → Hour → Bool
+readingsMeet q h = equationMeets (equationOf q (h .readings)) (span (unitOf q) (figureOf q (h .figures)))
+
+-- the values that the gas factor takes over the heat's span meet the SO2 figure's span
+abbrev pub gasMeets : Figures → Bool
+gasMeets f = scaleMeets (gasFactor .num) (gasFactor .den) (span tenth (f .heat)) (span tenth (f .so2))
+
+-- SO2 of a gas hour is judged by its heat
+abbrev pub byHeat : Quantity → Hour → Bool
+byHeat Heat h = false
+byHeat So2 h = h .gas
+byHeat Nox h = false
+byHeat Co2 h = false
+
+-- the test of a figure
 unfoldable pub passesTest : Quantity → Hour → Bool
-passesTest q h = equationMeets (equationOf q (h .readings)) (span (unitOf q) (figureOf q (h .figures)))
+passesTest q h = cond (byHeat q h) (gasMeets (h .figures)) (readingsMeet q h)
 
 -- a verdict on a figure: the test's, and right
 pub record Judges (q : Quantity) (h : Hour) (verdict : Bool) : Type 0 where
   pub test : verdict ≡ passesTest q h
-  pub exact : (verdict ≡ true) ↔ ((p : Pair) × LiesBehind q h p)
+  pub exact : (verdict ≡ true) ↔ ((e : Entry q) × LiesBehind q h e)
 
 -- an equation's recorded readings, read as exact
 abbrev pub recordedPair : Equation → Pair
 recordedPair e = record { left = recorded (e .left .unit) (e .left .count); right = recorded (e .right .unit) (e .right .count) }
 
--- a formula's exact value at unrounded readings, rounded half up
-abbrev pub roundedAt : Quantity → Readings → Pair → ℕ
-roundedAt q r p = halfUp (unitOf q) (exactValue q r p)
-
--- what the writer writes: the formula of the recorded readings, rounded
+-- what the writer writes: the formula of the recorded readings, rounded half up
 unfoldable pub roundedValue : Quantity → Readings → ℕ
-roundedValue q r = roundedAt q r (recordedPair (equationOf q r))
+roundedValue q r = halfUp (unitOf q) (equationValue (equationOf q r) (recordedPair (equationOf q r)))
 
 -- a figure for each quantity
 abbrev pub figuresBy : (Quantity → ℕ) → Figures
@@ -143,7 +187,11 @@ roundedFigures r = figuresBy (λ q. roundedValue q r)
 -- what a recorder that multiplies before it rounds records of unrounded readings: each of them rounded, beside Fc, and the formulas of the
 -- unrounded readings, rounded
 
-abbrev pub readingsFrom : Unrounded → (fc : ℕ) → Readings
+-- a figure's exact value at unrounded readings, rounded half up
+abbrev pub roundedAt : (q : Quantity) → Readings → Entry q → ℕ
+roundedAt q r e = halfUp (unitOf q) (exactValue q r e)
+
+abbrev pub readingsFrom : Monitored → (fc : ℕ) → Readings
 readingsFrom u fc = record {
   so2 = halfUp tenth (u .so2);
   nox = halfUp tenth (u .nox);
@@ -152,12 +200,12 @@ readingsFrom u fc = record {
   fc = fc;
 }
 
-abbrev pub figureFrom : Quantity → Unrounded → (fc : ℕ) → ℕ
-figureFrom q u fc = roundedAt q (readingsFrom u fc) (pairOf q u)
+abbrev pub figureFrom : Quantity → Monitored → (fc : ℕ) → ℕ
+figureFrom q u fc = roundedAt q (readingsFrom u fc) (entryOf q (setOf u))
 
-abbrev pub figuresFrom : Unrounded → (fc : ℕ) → Figures
+abbrev pub figuresFrom : Monitored → (fc : ℕ) → Figures
 figuresFrom u fc = figuresBy (λ q. figureFrom q u fc)
 
 -- the hour as it is then recorded, of so many hundredths
-abbrev pub hourFrom : Unrounded → (fc time : ℕ) → Hour
-hourFrom u fc time = record { time = time; readings = readingsFrom u fc; figures = figuresFrom u fc }
+abbrev pub hourFrom : Monitored → (fc time : ℕ) → Hour
+hourFrom u fc time = record { time = time; gas = false; readings = readingsFrom u fc; figures = figuresFrom u fc }

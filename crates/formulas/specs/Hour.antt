@@ -59,15 +59,31 @@ pub record HourWithin (h : Hour) : Type 0 where
 abbrev pub HoursWithin : List Hour → Type 0
 HoursWithin hs = All HourWithin hs
 
--- a set of unrounded readings of one hour
-pub record Unrounded : Type 0 where
+-- unrounded readings of the four monitors
+pub record Monitored : Type 0 where
   pub so2 : Fraction
   pub nox : Fraction
   pub co2 : Fraction
   pub flow : Fraction
 
+-- what SO2 is worked out from: the monitor's concentration or, in a gas hour, a heat
+pub data So2Reading : Type 0 where
+  concentration : Fraction → So2Reading
+  heatInput : Fraction → So2Reading
+
+-- a set of unrounded readings of one hour; a heat in it stands for the SO2 figure's readings, and for no other figure's
+pub record Unrounded : Type 0 where
+  pub so2 : So2Reading
+  pub nox : Fraction
+  pub co2 : Fraction
+  pub flow : Fraction
+
+-- the set that the monitors give
+abbrev pub setOf : Monitored → Unrounded
+setOf m = record { so2 = concentration (m .so2); nox = m .nox; co2 = m .co2; flow = m .flow }
+
 -- the recorded readings, read as exact
-abbrev pub asRecorded : Readings → Unrounded
+abbrev pub asRecorded : Readings → Monitored
 asRecorded r = record {
   so2 = recorded tenth (r .so2);
   nox = recorded tenth (r .nox);

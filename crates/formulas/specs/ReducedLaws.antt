@@ -1,19 +1,22 @@
--- The code's numbers give the definitions' test and rounded value: once for a product, once for a quotient.
+-- The code's numbers give the definitions' test and rounded value: once for a product, once for a quotient; and the test of a gas hour's SO2.
 use mathlib.Core.Path.{_≡_, ap, sym}
 use Prim.Native.Nat.{ℕ, _*_, _<_}
 use native.Mathlib.Nat.{mul-pos}
 use native.Mathlib.Omega.{arith}
+use lib.Dec.{lit<}
 use Rattle.exact.specs.Fraction.{Positive, Fraction, _⊗_}
 use Rattle.exact.specs.FractionLaws.{quotient}
 use Rattle.exact.specs.Rounding.{span, recorded, lowEnd, highEnd, halfUp}
 use Rattle.exact.specs.RoundingLaws.{nearest-reduced}
+use Rattle.exact.specs.Behind.{meets}
 use Rattle.exact.specs.MeetsLaws.{meets-reduced}
-use Rattle.formulas.specs.Formulas.{UnitCount, Equation, formValue, equationValue, recordedPair, spanOf, formMeets, equationMeets}
+use Rattle.formulas.specs.Formulas.{UnitCount, Equation, formValue, equationValue, recordedPair, spanOf, formMeets, equationMeets, gasMeets}
 use Rattle.formulas.specs.FormulaLaws.{Divides}
 use Rattle.formulas.specs.Reduced.{upperUnit, lowerUnit, Reduces, formulaMeets, formulaRounded}
 use Rattle.formulas.specs.declared.Form.{Form}
 use Rattle.formulas.specs.declared.Form.the-variants.{Product, Quotient}
 use Rattle.formulas.specs.declared.Formula.{Formula}
+use Rattle.formulas.specs.declared.hour.Figures.{Figures}
 
 -- c · x · y over the units
 product-upper : (m n c p q d x y : ℕ) → m * n ≡ c * p * q * d → 2 * m * (n * (x * y)) ≡ c * (x * p * (y * q)) * (2 * d)
@@ -64,6 +67,10 @@ meets-form Quotient f c x y u m v h p q l r =
 pub reduced-meets : (f : Formula) (e : Equation) (u : Positive) → Reduces f e u → (v : ℕ) → formulaMeets (e .form) f v ≡ equationMeets e (span u v)
 reduced-meets f e u r v =
     meets-form (e .form) f (e .factor) (e .left) (e .right) u (r .common) v (r .above) (r .upper) (r .lower) (r .left) (r .right)
+
+-- 6 × 20 against 10,000 × 20, reduced by 40
+pub reduced-gas : (f : Figures) → meets (3 * lowEnd (f .heat)) (3 * highEnd (f .heat)) (5000 * lowEnd (f .so2)) (5000 * highEnd (f .so2)) ≡ gasMeets f
+reduced-gas f = meets-reduced 40 _ _ _ _ (lit< tt) (omega arith) (omega arith) (omega arith) (omega arith)
 
 rounded-form : (k : Form) (f : Formula) (c : Fraction) (x y : UnitCount) (u : Positive) (m : ℕ) → 0 < m →
     m * f .num ≡ c .num * x .unit .num * upperUnit k (y .unit) * u .den →

@@ -17,9 +17,10 @@ pub struct Figures {
     pub co2: u64,
 }
 
-// The operating time is in hundredths of an hour.
+// The operating time is in hundredths of an hour. In a gas hour no SO2 monitor runs: SO2 comes from the heat, and readings.so2 is 0.
 pub struct Hour {
     pub time: u64,
+    pub gas: bool,
     pub readings: Readings,
     pub figures: Figures,
 }

@@ -7,8 +7,8 @@ use crate::hour::Quantity;
 use crate::hour::Readings;
 ghost use mathlib.Core.Path.{_≡_};
 ghost use Prim.Native.Nat.{_*_, _≤_};
-ghost use Rattle.formulas.specs.Hour.{figureOf, ReadingsWithin, HourWithin};
-ghost use Rattle.formulas.specs.Formulas.{Judges, roundedValue, roundedFigures};
+ghost use Rattle.formulas.specs.Hour.{figureOf, ReadingsWithin, FiguresWithin, HourWithin};
+ghost use Rattle.formulas.specs.Formulas.{readingsMeet, gasMeets, byHeat, Judges, roundedValue, roundedFigures};
 ghost use Rattle.formulas.specs.Reduced.{formulaMeets, ProductRoom, QuotientRoom, Serves};
 
 // How an equation joins its two readings: left × right, or left / right.
@@ -114,10 +114,10 @@ fn figure_of(q: Quantity, f: Figures) -> u64
     }
 }
 
-// Whether anything unrounded lies behind an hour's figure of a quantity.
-pub fn figure_passes(q: Quantity, h: Hour) -> bool
+// Whether an equation's values at readings that record as the hour's meet its figure.
+fn equation_passes(q: Quantity, h: Hour) -> bool
     requires { ⌜ HourWithin h ⌝ }
-    ensures { λ r. ⌜ Judges q h r ⌝ }
+    ensures { λ r. ⌜ r ≡ readingsMeet q h ⌝ }
 {
     let formula = formula_of(q, h.readings);
     let figure = figure_of(q, h.figures);
@@ -126,6 +126,39 @@ pub fn figure_passes(q: Quantity, h: Hour) -> bool
         Form::Product => product_meets(formula, figure),
         Form::Quotient => quotient_meets(formula, figure),
     }
+}
+
+// Whether SO2 from heats that record as the hour's heat meets its SO2 figure, both in half units: 0.0006 lb/mmBtu is 3 lb for 5,000 mmBtu.
+fn gas_passes(f: Figures) -> bool
+    requires { ⌜ FiguresWithin f ⌝ }
+    ensures { λ r. ⌜ r ≡ gasMeets f ⌝ }
+{
+    let x = exact::ends_of(f.heat);
+    let v = exact::ends_of(f.so2);
+    exact::ranges_meet(3 * x.from, 3 * x.below, 5000 * v.from, 5000 * v.below)
+}
+
+// Whether a figure is judged by the hour's heat: SO2 of a gas hour.
+fn by_heat(q: Quantity, h: Hour) -> bool
+    ensures { λ r. ⌜ r ≡ byHeat q h ⌝ }
+{
+    match q {
+        Quantity::Heat => false,
+        Quantity::So2 => h.gas,
+        Quantity::Nox => false,
+        Quantity::Co2 => false,
+    }
+}
+
+// Whether anything unrounded lies behind an hour's figure of a quantity.
+pub fn figure_passes(q: Quantity, h: Hour) -> bool
+    requires { ⌜ HourWithin h ⌝ }
+    ensures { λ r. ⌜ Judges q h r ⌝ }
+{
+    if by_heat(q, h) {
+        return gas_passes(h.figures);
+    }
+    equation_passes(q, h)
 }
 
 // The formula of recorded readings, rounded half up.

@@ -1,7 +1,7 @@
 -- The records of a report: one row a type, and their order. Everything else is derived from the two. Columns count from 1.
 use Prim.Native.Nat.{ℕ, suc, _+_, _*_, _-_, _/_, _%_, _≤_, _^_}
 use mathlib.Core.Path.{_≡_}
-use mathlib.Core.Bool.{Bool, cond, _&&_}
+use mathlib.Core.Bool.{Bool, true, false, cond, _&&_}
 use mathlib.Core.List.{List, [], _∷_}
 use lib.Dec.{eqb, leb}
 use lib.ListN.{length, getD, take, drop}
@@ -107,6 +107,14 @@ noxTons = anyDecimal 49 11 1
 abbrev pub so2Rate : Value
 so2Rate = anyDecimal 25 7 1
 
+-- the word of a gas hour, on its 310 line
+
+abbrev pub gasStart : ℕ
+gasStart = 32
+
+abbrev pub gasWord : List ℕ
+gasWord = 71 ∷ 65 ∷ 83 ∷ []
+
 abbrev pub fFactor : Value
 fFactor = rangedValue 26 10 1 5000 30000
 
@@ -129,16 +137,21 @@ linesOf Once s = 1
 linesOf Hourly s = s .hours
 linesOf Listed s = s .operations
 
--- a type's code; its length without byte 10; where date and hour start (0 where it has none); its run of lines; its values, left to right
+-- a type's code; its length without byte 10; where date and hour start (0 where it has none); its run of lines; its values, left to right;
+-- whether its lines may have the word of a gas hour
 pub record Record : Type 0 where
   pub code : ℕ
   pub length : ℕ
   pub date : ℕ
   pub run : Run
   pub values : List Value
+  pub gas : Bool
+
+abbrev rowWith : (gas : Bool) (code length date : ℕ) → Run → List Value → Record
+rowWith gas code length date run values = record { code = code; length = length; date = date; run = run; values = values; gas = gas }
 
 abbrev row : (code length date : ℕ) → Run → List Value → Record
-row code length date run values = record { code = code; length = length; date = date; run = run; values = values }
+row = rowWith false
 
 abbrev pub recordOf : RecordType → Record
 recordOf Facility = row 100 14 0 Once []
@@ -148,7 +161,7 @@ recordOf Co2Concentration = row 202 34 16 Hourly (co2Percent ∷ [])
 recordOf VolumetricFlow = row 220 48 16 Hourly (flowScfh ∷ [])
 recordOf Operation = row 300 42 10 Listed (timeHours ∷ heatRate ∷ [])
 recordOf QuarterTotals = row 301 59 0 Once (so2Tons ∷ co2Tons ∷ heatTotal ∷ noxMean ∷ noxTons ∷ [])
-recordOf So2Mass = row 310 34 10 Hourly (so2Rate ∷ [])
+recordOf So2Mass = rowWith true 310 34 10 Hourly (so2Rate ∷ [])
 recordOf NoxRate = row 320 54 13 Hourly (fFactor ∷ noxRate ∷ [])
 recordOf Co2Mass = row 330 24 10 Hourly (co2Rate ∷ [])
 
@@ -184,7 +197,15 @@ valueAt t i = getD (valuesOf t) i noValue
 
 -- the numbers of a row, as the code has them
 abbrev pub rowOf : RecordType → Row
-rowOf t = record { code = codeOf t; digits = typeDigits t; length = lengthOf t; date = dateColumn t; run = recordOf t .run; values = valueCount t }
+rowOf t = record {
+  code = codeOf t;
+  digits = typeDigits t;
+  length = lengthOf t;
+  date = dateColumn t;
+  run = recordOf t .run;
+  values = valueCount t;
+  gas = recordOf t .gas;
+}
 
 -- the place of a type in the order, found by its code
 abbrev pub placeOf : ℕ → List RecordType → ℕ

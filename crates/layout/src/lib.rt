@@ -48,6 +48,19 @@ pub const OPERATION_BYTES: usize = OPERATION_LENGTH + 1;
 
 pub const OPERATION_DATE: usize = 10;
 
+// A 310 line: its length, the word of a gas hour and where it starts, and that place in bytes of the line.
+pub const SO2_MASS_LENGTH: usize = 34;
+
+pub const GAS_START: usize = 32;
+
+pub const GAS_WIDTH: usize = 3;
+
+pub const GAS: [u8; GAS_WIDTH] = [b'G', b'A', b'S'];
+
+pub const GAS_FROM: usize = GAS_START - 1;
+
+pub const GAS_TO: usize = GAS_FROM + GAS_WIDTH;
+
 pub enum RecordType {
     // 100
     Facility,
@@ -98,7 +111,7 @@ struct Lead {
 }
 
 // A type's code, which is written, and its digits, which are compared; the length of its line without byte 10, where date and hour start (0 where it has
-// none), its run of lines, how many values it has.
+// none), its run of lines, how many values it has, whether its lines may have GAS.
 pub struct Row {
     pub code: u64,
     pub digits: [u8; TYPE_WIDTH],
@@ -106,6 +119,7 @@ pub struct Row {
     pub date: usize,
     pub run: Run,
     pub values: usize,
+    pub gas: bool,
 }
 
 pub fn row_of(t: RecordType) -> Row
@@ -119,6 +133,7 @@ pub fn row_of(t: RecordType) -> Row
             date: 0,
             run: Run::Once,
             values: 0,
+            gas: false,
         },
         RecordType::So2Concentration => Row {
             code: 200,
@@ -127,6 +142,7 @@ pub fn row_of(t: RecordType) -> Row
             date: SO2_DATE,
             run: Run::Hourly,
             values: 1,
+            gas: false,
         },
         RecordType::NoxConcentration => Row {
             code: 201,
@@ -135,6 +151,7 @@ pub fn row_of(t: RecordType) -> Row
             date: 16,
             run: Run::Hourly,
             values: 1,
+            gas: false,
         },
         RecordType::Co2Concentration => Row {
             code: 202,
@@ -143,6 +160,7 @@ pub fn row_of(t: RecordType) -> Row
             date: 16,
             run: Run::Hourly,
             values: 1,
+            gas: false,
         },
         RecordType::VolumetricFlow => Row {
             code: 220,
@@ -151,6 +169,7 @@ pub fn row_of(t: RecordType) -> Row
             date: 16,
             run: Run::Hourly,
             values: 1,
+            gas: false,
         },
         RecordType::Operation => Row {
             code: 300,
@@ -159,6 +178,7 @@ pub fn row_of(t: RecordType) -> Row
             date: OPERATION_DATE,
             run: Run::Listed,
             values: 2,
+            gas: false,
         },
         RecordType::QuarterTotals => Row {
             code: 301,
@@ -167,14 +187,16 @@ pub fn row_of(t: RecordType) -> Row
             date: 0,
             run: Run::Once,
             values: 5,
+            gas: false,
         },
         RecordType::So2Mass => Row {
             code: 310,
             digits: [b'3', b'1', b'0'],
-            length: 34,
+            length: SO2_MASS_LENGTH,
             date: 10,
             run: Run::Hourly,
             values: 1,
+            gas: true,
         },
         RecordType::NoxRate => Row {
             code: 320,
@@ -183,6 +205,7 @@ pub fn row_of(t: RecordType) -> Row
             date: 13,
             run: Run::Hourly,
             values: 2,
+            gas: false,
         },
         RecordType::Co2Mass => Row {
             code: 330,
@@ -191,6 +214,7 @@ pub fn row_of(t: RecordType) -> Row
             date: 10,
             run: Run::Hourly,
             values: 1,
+            gas: false,
         },
     }
 }

@@ -2,7 +2,7 @@
 use Prim.Native.Nat.{ℕ, zero, suc, _+_, _-_, _≤_, _<_}
 use mathlib.Core.Path.{_≡_, refl, ap, _∙_}
 use mathlib.Core.List.{List, [], _∷_}
-use mathlib.Core.Bool.{true, not}
+use mathlib.Core.Bool.{true, false, not}
 use native.Mathlib.Omega.{arith}
 use native.Mathlib.Nat.{le-of-suc-le-suc, not-suc-le-zero}
 use lib.Dec.{eqb, leb}
@@ -12,23 +12,25 @@ use borrow.Author.Tests.{eqb-true, leb-true, le-leb, eq-eqb}
 use Rattle.columns.specs.Bytes.{isBlank, all}
 use Rattle.columns.specs.BytesLaws.{same-eq}
 use Rattle.columns.specs.Columns.{columns}
-use Rattle.columns.specs.Number.{numberOf}
+use Rattle.columns.specs.Number.{isEmpty, numberOf}
 use Rattle.columns.specs.declared.Field.{Field}
 use Rattle.columns.specs.declared.Field.the-variants.{Blank, Malformed, Number}
 use Rattle.calendar.specs.Calendar.{mostHours, IsQuarter}
 use Rattle.calendar.specs.declared.QuarterHour.{QuarterHour}
 use Rattle.calendar.specs.declared.QuarterHour.the-variants.{At, Outside}
-use Rattle.layout.specs.Layout.{codeOf, lengthOf, dateColumn, typeWidth, typeDigits, yearDigits, quarterDigit, valuesOf, Within, inRange, wholeSteps, within}
+use Rattle.layout.specs.Layout.{recordOf, codeOf, lengthOf, dateColumn, typeWidth, typeDigits, yearDigits, quarterDigit, so2Ppm}
+use Rattle.layout.specs.Layout.{valuesOf, valueCount, valueAt, noValue, Within, inRange, wholeSteps, within}
 use Rattle.layout.specs.LayoutLaws.{tests-within, within-true, true-in-range}
 use Rattle.layout.specs.TypeLaws.{digits-tell}
 use Rattle.layout.specs.declared.RecordType.{RecordType}
 use Rattle.layout.specs.declared.RecordType.the-variants.{Facility, So2Concentration}
 use Rattle.layout.specs.declared.values.Value.{Value}
 use Rattle.stamp.specs.StampLaws.{stamp-below}
+use Rattle.exact.specs.Logic.{agree, agreed}
 use Rattle.exact.specs.Faults.{unless, or-zero, unless-zero}
 use Rattle.lines.specs.LineFaults.{typeIs, shapeFault, stackOf, commonFault, fieldFault, fieldIn, valuesFault, digitsIn, periodOn}
 use Rattle.lines.specs.LineFaults.{facilityFault, facilityLine, risingFault, dateOn, hourOn, datedFault, hourFault, hourNumber, hourIn, hourLine}
-use Rattle.lines.specs.LineFaults.{Due, dateFault, dueFault}
+use Rattle.lines.specs.LineFaults.{so2Fault, Due, dateFault, hasGas, so2Blank, gasFault, dueFault}
 use Rattle.lines.specs.declared.Period.{Period}
 use Rattle.lines.specs.declared.FacilityLine.the-variants.{Of, Faulty as FaultyFacility}
 use Rattle.lines.specs.declared.HourLine.the-variants.{At as OfHour, Faulty as FaultyHour}
@@ -62,12 +64,33 @@ pub field-right : (v : Value) (k : ℕ) → Within v k → fieldFault v (Number 
 unfolding fieldFault
 field-right v k w = rw (true-in-range v k (w .least, w .most), eq-eqb _ _ (w .whole))
 
-pub values-within : (vs : List Value) (line : List ℕ) → valuesFault vs line ≡ 0 → (i : ℕ) (d : Value) → i < length vs →
+-- so does that of a 200 line, a blank one being 0
+so2-within : (f : Field) → so2Fault f ≡ 0 → Within so2Ppm (numberOf f)
+unfolding so2Fault numberOf
+so2-within Blank e = omega arith
+so2-within Malformed e = absurd (omega arith)
+so2-within (Number k) e = field-within so2Ppm (Number k) e
+
+values-within : (vs : List Value) (line : List ℕ) → valuesFault vs line ≡ 0 → (i : ℕ) (d : Value) → i < length vs →
     Within (getD vs i d) (numberOf (fieldIn (getD vs i d) line))
 unfolding valuesFault
 values-within [] line e i d h = absurd (not-suc-le-zero h)
 values-within (v ∷ vs) line e zero d h = field-within v (fieldIn v line) (or-zero (fieldFault v (fieldIn v line)) _ e .0)
 values-within (v ∷ vs) line e (suc i) d h = values-within vs line (or-zero (fieldFault v (fieldIn v line)) _ e .1) i d (le-of-suc-le-suc h)
+
+-- a value that has no fault has none on a 200 line, and is not blank
+pub so2-right : (f : Field) → fieldFault so2Ppm f ≡ 0 → (so2Fault f ≡ 0) × (isEmpty f ≡ false)
+unfolding fieldFault so2Fault isEmpty
+so2-right Blank e = absurd (omega arith)
+so2-right Malformed e = absurd (omega arith)
+so2-right (Number k) e = (e, refl)
+
+-- every value of a line of a type lies in its range
+abbrev pub ValuesRight : RecordType → List ℕ → Type 0
+ValuesRight t line = (i : ℕ) → i < valueCount t → Within (valueAt t i) (numberOf (fieldIn (valueAt t i) line))
+
+pub values-right : (t : RecordType) (line : List ℕ) → valuesFault (valuesOf t) line ≡ 0 → ValuesRight t line
+values-right t line e i h = values-within (valuesOf t) line e i noValue h
 
 -- the parts of a line's fault
 
@@ -120,15 +143,16 @@ module _ (facility : List ℕ) (period : Period) (t : RecordType) (from : ℕ) (
       go (At x) f = let l = leb-true from x (unless-zero (leb from x) 5 f) in rw (le-leb earlier x (omega arith))
 
 module _ (facility : List ℕ) (period : Period) (from : ℕ) (line : List ℕ) (e : hourFault facility period from line ≡ 0) where
-  hour-parts : (datedFault facility period So2Concentration from line ≡ 0) × (valuesFault (valuesOf So2Concentration) line ≡ 0)
+  hour-parts : (datedFault facility period So2Concentration from line ≡ 0) × (so2Fault (fieldIn so2Ppm line) ≡ 0)
   unfolding hourFault
   hour-parts = or-zero (datedFault facility period So2Concentration from line) _ e
 
   pub hour-shape : shapeFault So2Concentration line ≡ 0
   hour-shape = dated-shape facility period So2Concentration from line (hour-parts .0)
 
-  pub hour-values : valuesFault (valuesOf So2Concentration) line ≡ 0
-  hour-values = hour-parts .1
+  pub hour-values : ValuesRight So2Concentration line
+  hour-values zero h = so2-within (fieldIn so2Ppm line) (hour-parts .1)
+  hour-values (suc i) h = absurd (omega arith)
 
   pub hour-rises : IsQuarter (period .quarter) → (from ≤ hourIn period So2Concentration line) × (hourIn period So2Concentration line < mostHours)
   hour-rises = dated-rises facility period So2Concentration from line (hour-parts .0)
@@ -159,6 +183,7 @@ hour-said facility period from line hour e = go (hourFault facility period from 
 pub record DueRight (facility : List ℕ) (d : Due) (line : List ℕ) : Type 0 where
   pub common : commonFault facility (d .type) line ≡ 0
   pub date : dateFault (dateColumn (d .type)) (dateOn So2Concentration (d .hour)) line ≡ 0
+  pub gas : gasFault (recordOf (d .type) .gas) (d .hour) line ≡ 0
   pub values : valuesFault (valuesOf (d .type)) line ≡ 0
 
 module _ (facility : List ℕ) (d : Due) (line : List ℕ) where
@@ -167,14 +192,20 @@ module _ (facility : List ℕ) (d : Due) (line : List ℕ) where
   due-right e =
       let a = or-zero (commonFault facility (d .type) line) _ e in
       let b = or-zero (dateFault (dateColumn (d .type)) (dateOn So2Concentration (d .hour)) line) _ (a .1) in
-      record { common = a .0; date = b .0; values = b .1 }
+      let c = or-zero (gasFault (recordOf (d .type) .gas) (d .hour) line) _ (b .1) in
+      record { common = a .0; date = b .0; gas = c .0; values = c .1 }
 
   pub right-due : DueRight facility d line → dueFault facility d line ≡ 0
   unfolding dueFault
-  right-due r = rw (r .common, r .date, r .values)
+  right-due r = rw (r .common, r .date, r .gas, r .values)
 
   pub due-shape : dueFault facility d line ≡ 0 → shapeFault (d .type) line ≡ 0
   due-shape e = common-shape facility (d .type) line (due-right e .common)
+
+-- GAS and a blank value go together
+pub gas-together : (hour line : List ℕ) → gasFault true hour line ≡ 0 → hasGas line ≡ so2Blank hour
+unfolding gasFault
+gas-together hour line e = agreed (hasGas line) (so2Blank hour) (unless-zero (agree (hasGas line) (so2Blank hour)) 48 e)
 
 -- columns of a line are columns of the file
 take-drop-take : (w a m : ℕ) (l : List ℕ) → a + w ≤ m → take w (drop a (take m l)) ≡ take w (drop a l)

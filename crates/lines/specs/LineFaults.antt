@@ -2,19 +2,20 @@
 -- paper's table; 0 is none.
 use Prim.Native.Nat.{ℕ, zero, suc}
 use mathlib.Core.List.{List, [], _∷_}
-use mathlib.Core.Bool.{Bool, cond, not}
+use mathlib.Core.Bool.{Bool, true, false, cond, not}
 use lib.Dec.{eqb, leb, ltb}
 use lib.ListN.{length, take}
+use Rattle.exact.specs.Logic.{agree}
 use Rattle.exact.specs.Faults.{_orElse_, unless}
 use Rattle.columns.specs.Bytes.{isBlank, isPrintable, all, same}
 use Rattle.columns.specs.Columns.{columns}
-use Rattle.columns.specs.Number.{digitsOnly, fieldOf, numberOf}
+use Rattle.columns.specs.Number.{digitsOnly, fieldOf, isEmpty, numberOf}
 use Rattle.columns.specs.declared.Field.{Field}
 use Rattle.columns.specs.declared.Field.the-variants.{Blank, Malformed, Number}
 use Rattle.calendar.specs.declared.QuarterHour.{QuarterHour}
 use Rattle.calendar.specs.declared.QuarterHour.the-variants.{At, Outside}
 use Rattle.layout.specs.Layout.{typeWidth, typeDigits, stackStart, stackWidth, dateWidth, yearDigits, quarterDigit, lengthOf}
-use Rattle.layout.specs.Layout.{dateColumn, valuesOf, listedTime, heatRate, inRange, wholeSteps, within}
+use Rattle.layout.specs.Layout.{recordOf, dateColumn, valuesOf, so2Ppm, listedTime, heatRate, gasStart, gasWord, inRange, wholeSteps, within}
 use Rattle.stamp.specs.Stamp.{stampHour}
 use Rattle.layout.specs.declared.RecordType.{RecordType}
 use Rattle.layout.specs.declared.RecordType.the-variants.{Facility, So2Concentration, Operation}
@@ -107,10 +108,15 @@ unfoldable pub datedLine : List ℕ → Period → RecordType → ℕ → List �
 datedLine facility period t from line =
     elim (datedFault facility period t from line) [ zero ↦ OfHour (hourIn period t line) | suc c ↦ FaultyHour (suc c) ]
 
--- a 200 line: behind them, its value
+-- a 200 line: behind them, its value, which may be blank here; whether it has to be, the 310 line of its rank says
+
+unfoldable pub so2Fault : Field → ℕ
+so2Fault Blank = 0
+so2Fault Malformed = 8
+so2Fault (Number k) = fieldFault so2Ppm (Number k)
+
 unfoldable pub hourFault : List ℕ → Period → ℕ → List ℕ → ℕ
-hourFault facility period from line =
-    datedFault facility period So2Concentration from line orElse valuesFault (valuesOf So2Concentration) line
+hourFault facility period from line = datedFault facility period So2Concentration from line orElse so2Fault (fieldIn so2Ppm line)
 
 unfoldable pub hourLine : List ℕ → Period → ℕ → List ℕ → HourLine
 hourLine facility period from line =
@@ -130,10 +136,23 @@ unfoldable pub dateFault : ℕ → List ℕ → List ℕ → ℕ
 dateFault zero date line = 0
 dateFault (suc c) date line = unless (same (columns (suc c) dateWidth line) date) 7
 
+-- 49: a gas hour has GAS on its 310 line, and a blank SO2 value on the 200 line of its rank
+
+unfoldable pub hasGas : List ℕ → Bool
+hasGas line = same (columns gasStart (length gasWord) line) gasWord
+
+unfoldable pub so2Blank : List ℕ → Bool
+so2Blank line = isEmpty (fieldIn so2Ppm line)
+
+unfoldable pub gasFault : Bool → List ℕ → List ℕ → ℕ
+gasFault false hour line = 0
+gasFault true hour line = unless (agree (hasGas line) (so2Blank hour)) 49
+
 unfoldable pub dueFault : List ℕ → Due → List ℕ → ℕ
 dueFault facility due line =
     commonFault facility (due .type) line
     orElse dateFault (dateColumn (due .type)) (dateOn So2Concentration (due .hour)) line
+    orElse gasFault (recordOf (due .type) .gas) (due .hour) line
     orElse valuesFault (valuesOf (due .type)) line
 
 -- a 300 line: behind its hour, its time; then, where the hour operates, date and heat; where it is idle, 47 unless the heat columns are blank

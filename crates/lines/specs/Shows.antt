@@ -12,8 +12,8 @@ use Rattle.columns.specs.declared.Field.the-variants.{Blank, Number}
 use Rattle.calendar.specs.declared.QuarterHour.the-variants.{At, Outside}
 use Rattle.layout.specs.Layout.{lengthOf, dateColumn, yearDigits, quarterDigit, flowScfh, listedTime, heatRate, valueCount, valueAt, Between}
 use Rattle.layout.specs.declared.RecordType.{RecordType}
-use Rattle.layout.specs.declared.RecordType.the-variants.{Facility, So2Concentration, VolumetricFlow, Operation}
-use Rattle.lines.specs.LineFaults.{typeIs, stackOf, fieldIn, digitsIn, periodOn, hourOn, timeIn, operates}
+use Rattle.layout.specs.declared.RecordType.the-variants.{Facility, So2Concentration, VolumetricFlow, Operation, So2Mass}
+use Rattle.lines.specs.LineFaults.{typeIs, stackOf, fieldIn, digitsIn, periodOn, hourOn, so2Blank, timeIn, operates}
 
 -- the types whose hours rise, line by line
 abbrev pub Rises : RecordType → Type 0
@@ -34,7 +34,8 @@ pub data Shows (facility line : List ℕ) : ℕ → Type 0 where
   hourNotLater : (t : RecordType) (hour : ℕ) → Rises t → typeIs t line ≡ true → hourOn (periodOn facility) t line ≡ At hour → Shows facility line 6
   -- which date and hour it must have, the 200 line of its rank says; none is left for a 300 line too many
   otherDate : (t : RecordType) → (t ≡ Operation → operates line ≡ true) → typeIs t line ≡ true → 1 ≤ dateColumn t → Shows facility line 7
-  notInFormat : (t : RecordType) (i : ℕ) → (t ≡ Operation → i ≡ 1 → operates line ≡ true) → typeIs t line ≡ true → i < valueCount t →
+  notInFormat : (t : RecordType) (i : ℕ) → (t ≡ Operation → i ≡ 1 → operates line ≡ true) → (t ≡ So2Concentration → so2Blank line ≡ false) →
+      typeIs t line ≡ true → i < valueCount t →
       ((k : ℕ) → fieldIn (valueAt t i) line ≡ Number k → ⊥) → Shows facility line 8
   valueOutside : (t : RecordType) (i k : ℕ) → (t ≡ Operation → i ≡ 0 → ⊥) → typeIs t line ≡ true → i < valueCount t →
       fieldIn (valueAt t i) line ≡ Number k → (Between (valueAt t i) k → ⊥) → Shows facility line 9
@@ -43,7 +44,9 @@ pub data Shows (facility line : List ℕ) : ℕ → Type 0 where
       Shows facility line 43
   -- an idle hour
   heatGiven : typeIs Operation line ≡ true → timeIn line ≡ Number 0 → (fieldIn heatRate line ≡ Blank → ⊥) → Shows facility line 47
+  -- whether it must have GAS, the 200 line of its rank says
+  gasApart : typeIs So2Mass line ≡ true → Shows facility line 49
 
--- the numbers of the line checks: 1 to 10, of which 1 is of the whole file and 10 of a line that is missing, 43 and 47
+-- the numbers of the line checks: 1 to 10, of which 1 is of the whole file and 10 of a line that is missing, 43, 47 and 49
 abbrev pub ofLineChecks : ℕ → Bool
-ofLineChecks number = (leb 1 number && leb number 10) || eqb number 43 || eqb number 47
+ofLineChecks number = (leb 1 number && leb number 10) || eqb number 43 || eqb number 47 || eqb number 49

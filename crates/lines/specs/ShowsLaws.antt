@@ -12,26 +12,29 @@ use borrow.Author.Tests.{eqb-false, ltb-false, not-false}
 use Rattle.columns.specs.Bytes.{isBlank, isPrintable, all, same}
 use Rattle.columns.specs.BytesLaws.{same-eq, all-false}
 use Rattle.columns.specs.Columns.{columns}
-use Rattle.columns.specs.Number.{numberOf}
+use Rattle.columns.specs.Number.{isEmpty, numberOf}
 use Rattle.columns.specs.declared.Field.{Field}
 use Rattle.columns.specs.declared.Field.the-variants.{Blank, Malformed, Number}
 use Rattle.calendar.specs.declared.QuarterHour.{QuarterHour}
 use Rattle.calendar.specs.declared.QuarterHour.the-variants.{At, Outside}
-use Rattle.layout.specs.Layout.{codeOf, lengthOf, dateColumn, dateWidth, yearDigits, quarterDigit, listedTime, heatRate, valuesOf, valueCount}
+use Rattle.layout.specs.Layout.{recordOf, codeOf, lengthOf, dateColumn, dateWidth, yearDigits, quarterDigit, so2Ppm, listedTime, heatRate, valuesOf, valueCount}
 use Rattle.layout.specs.Layout.{valueAt, noValue, Between, inRange, wholeSteps, within}
 use Rattle.layout.specs.LayoutLaws.{in-range-true, true-in-range, true-within}
+use Rattle.layout.specs.TypeLaws.{gas-type}
 use Rattle.layout.specs.ValueLaws.{step-of}
 use Rattle.layout.specs.declared.RecordType.{RecordType}
 use Rattle.layout.specs.declared.RecordType.the-variants.{Facility, So2Concentration, VolumetricFlow, Operation}
 use Rattle.layout.specs.declared.values.Value.{Value}
+use Rattle.exact.specs.Logic.{agree}
 use Rattle.exact.specs.Faults.{_orElse_, unless}
 use Rattle.lines.specs.LineFaults.{typeIs, shapeFault, stackOf, stackFault, commonFault, fieldFault, fieldIn, valuesFault, digitsIn}
 use Rattle.lines.specs.LineFaults.{periodOn, facilityFault, facilityLine, risingFault, dateOn, hourOn, datedFault, hourFault, hourIn, hourLine}
-use Rattle.lines.specs.LineFaults.{Due, dateFault, dueFault, timeIn, operates, idleFault, operatingFault, timedFault, operationFault, saidOf, operationLine}
+use Rattle.lines.specs.LineFaults.{so2Fault, hasGas, so2Blank, gasFault, Due, dateFault, dueFault}
+use Rattle.lines.specs.LineFaults.{timeIn, operates, idleFault, operatingFault, timedFault, operationFault, saidOf, operationLine}
 use Rattle.lines.specs.FaultLaws.{shape-type, common-shape, dated-shape}
 use Rattle.lines.specs.Shows.{Shows, Rises, ofLineChecks}
 use Rattle.lines.specs.Shows.Shows.{otherType, otherLength, unprintable, blankStack, otherStack, yearOutside, quarterOutside, hourOutside, hourNotLater}
-use Rattle.lines.specs.Shows.Shows.{otherDate, notInFormat, valueOutside, timeOutside, notThousands, heatGiven}
+use Rattle.lines.specs.Shows.Shows.{otherDate, notInFormat, valueOutside, timeOutside, notThousands, heatGiven, gasApart}
 use Rattle.lines.specs.declared.FacilityLine.the-variants.{Of, Faulty as FaultyFacility}
 use Rattle.lines.specs.declared.HourLine.the-variants.{At as OfHour, Faulty as FaultyHour}
 use Rattle.lines.specs.declared.operation.OperationLine.the-variants.{Operating, Idle, Faulty as FaultyOperation}
@@ -84,6 +87,11 @@ zero-time (Number k) z e = ap Number z
 so2-other : So2Concentration ≡ Operation → ⊥
 so2-other e = let z : _≡_ {A = ℕ} 200 300 = ap codeOf e in omega arith
 
+-- a type whose lines are judged by the 200 line of their rank: neither that of the 200 lines nor that of the 300 lines
+pub record Ranked (t : RecordType) : Type 0 where
+  pub first : t ≡ So2Concentration → ⊥
+  pub listed : t ≡ Operation → ⊥
+
 module _ (facility line : List ℕ) where
   abbrev Here : ℕ → Type 0
   Here = Shows facility line
@@ -111,38 +119,45 @@ module _ (facility line : List ℕ) where
       go (inr own) = notThousands k (rw (own .0) at type) (rw (own .0, own .1) at e) (rw (own .0, own .1) at b) (rw (own .0, own .1) at n)
 
   module _ (t : RecordType) (type : typeIs t line ≡ true) where
-    no-number : (i : ℕ) → (t ≡ Operation → i ≡ 1 → operates line ≡ true) → i < valueCount t → (f : Field) → fieldIn (valueAt t i) line ≡ f →
-        ((k : ℕ) → f ≡ Number k → ⊥) → Here 8
-    no-number i o h f e n = notInFormat t i o type h (λ k g. n k (sym e ∙ g))
+    no-number : (i : ℕ) → (t ≡ Operation → i ≡ 1 → operates line ≡ true) → (t ≡ So2Concentration → so2Blank line ≡ false) → i < valueCount t →
+        (f : Field) → fieldIn (valueAt t i) line ≡ f → ((k : ℕ) → f ≡ Number k → ⊥) → Here 8
+    no-number i o s h f e n = notInFormat t i o s type h (λ k g. n k (sym e ∙ g))
 
     -- a value that is not the time of a 300 line
-    field-shown : (i : ℕ) → (t ≡ Operation → i ≡ 0 → ⊥) → (t ≡ Operation → i ≡ 1 → operates line ≡ true) → i < valueCount t → (f : Field) →
-        fieldIn (valueAt t i) line ≡ f →
+    field-shown : (i : ℕ) → (t ≡ Operation → i ≡ 0 → ⊥) → (t ≡ Operation → i ≡ 1 → operates line ≡ true) →
+        (t ≡ So2Concentration → so2Blank line ≡ false) → i < valueCount t → (f : Field) → fieldIn (valueAt t i) line ≡ f →
         Shown Here (fieldFault (valueAt t i) f)
     unfolding fieldFault
-    field-shown i other o h Blank e = no-number i o h Blank e (λ k g. let z : _≡_ {A = ℕ} 0 1 = cc in omega arith)
-    field-shown i other o h Malformed e = no-number i o h Malformed e (λ k g. let z : _≡_ {A = ℕ} 0 1 = cc in omega arith)
-    field-shown i other o h (Number k) e =
+    field-shown i other o s h Blank e = no-number i o s h Blank e (λ k g. let z : _≡_ {A = ℕ} 0 1 = cc in omega arith)
+    field-shown i other o s h Malformed e = no-number i o s h Malformed e (λ k g. let z : _≡_ {A = ℕ} 0 1 = cc in omega arith)
+    field-shown i other o s h (Number k) e =
         test-shown Here (inRange (valueAt t i) k) 8 _ (λ g. valueOutside t i k other type h e (outside (valueAt t i) k g)) (λ y.
         unless-shown Here (wholeSteps (valueAt t i) k) 42 (λ g. flow-shown t type i k h e (in-range-true (valueAt t i) k y) (eqb-false _ _ g)))
 
-    fields-shown : (t ≡ Operation → ⊥) → Shown Here (valuesFault (valuesOf t) line)
-    fields-shown other = values-shown Here line (valuesOf t)
-        (λ i h. field-shown i (λ e z. other e) (λ e z. absurd (other e)) h (fieldIn (valueAt t i) line) refl)
+    fields-shown : Ranked t → Shown Here (valuesFault (valuesOf t) line)
+    fields-shown r = values-shown Here line (valuesOf t)
+        (λ i h. field-shown i (λ e z. r .listed e) (λ e z. absurd (r .listed e)) (λ e. absurd (r .first e)) h (fieldIn (valueAt t i) line) refl)
+
+    gas-shown : (hour : List ℕ) (gas : Bool) → recordOf t .gas ≡ gas → Shown Here (gasFault gas hour line)
+    unfolding gasFault
+    gas-shown hour false e = tt
+    gas-shown hour true e = unless-shown Here (agree (hasGas line) (so2Blank hour)) 48 (λ g. gasApart (rw (gas-type t e) at type))
 
     date-shown : (t ≡ Operation → operates line ≡ true) → (date : List ℕ) → (c : ℕ) → dateColumn t ≡ c → Shown Here (dateFault c date line)
     unfolding dateFault
     date-shown o date zero e = tt
     date-shown o date (suc c) e = unless-shown Here (same (columns (suc c) dateWidth line) date) 6 (λ g. otherDate t o type (omega arith))
 
-  due-shown : (d : Due) → (d .type ≡ Operation → ⊥) → Shown Here (dueFault facility d line)
+  due-shown : (d : Due) → Ranked (d .type) → Shown Here (dueFault facility d line)
   unfolding dueFault
-  due-shown d other =
+  due-shown d r =
       or-shown Here (commonFault facility (d .type) line) _ (common-shown (d .type)) (λ z.
       let type = shape-type (d .type) line (common-shape facility (d .type) line z) in
       let date = dateOn So2Concentration (d .hour) in
-      or-shown Here (dateFault (dateColumn (d .type)) date line) _ (date-shown (d .type) type (λ e. absurd (other e)) date (dateColumn (d .type)) refl) (λ y.
-      fields-shown (d .type) type other))
+      or-shown Here (dateFault (dateColumn (d .type)) date line) _ (date-shown (d .type) type (λ e. absurd (r .listed e)) date (dateColumn (d .type)) refl)
+      (λ y.
+      or-shown Here (gasFault (recordOf (d .type) .gas) (d .hour) line) _ (gas-shown (d .type) type (d .hour) (recordOf (d .type) .gas) refl) (λ x.
+      fields-shown (d .type) type r)))
 
   rising-shown : (t : RecordType) → Rises t → typeIs t line ≡ true → (from : ℕ) (h : QuarterHour) → hourOn (periodOn facility) t line ≡ h →
       Shown Here (risingFault from h)
@@ -159,20 +174,31 @@ module _ (facility line : List ℕ) where
   dated-type : (t : RecordType) (from : ℕ) → datedFault facility (periodOn facility) t from line ≡ 0 → typeIs t line ≡ true
   dated-type t from z = shape-type t line (dated-shape facility (periodOn facility) t from line z)
 
+  -- the value of a 200 line
+  so2-shown : typeIs So2Concentration line ≡ true → (f : Field) → fieldIn so2Ppm line ≡ f → Shown Here (so2Fault f)
+  unfolding so2Fault so2Blank isEmpty
+  so2-shown type Blank e = tt
+  so2-shown type Malformed e =
+      no-number So2Concentration type 0 (λ y z. absurd (so2-other y)) (λ y. rw e) (omega arith) Malformed e (λ k g. let z : _≡_ {A = ℕ} 0 1 = cc in omega arith)
+  so2-shown type (Number k) e =
+      field-shown So2Concentration type 0 (λ y z. so2-other y) (λ y z. absurd (so2-other y)) (λ y. rw e) (omega arith) (Number k) e
+
   hour-shown : (from : ℕ) → Shown Here (hourFault facility (periodOn facility) from line)
   unfolding hourFault
   hour-shown from =
       or-shown Here (datedFault facility (periodOn facility) So2Concentration from line) _ (dated-shown So2Concentration (inl refl) from) (λ z.
-      fields-shown So2Concentration (dated-type So2Concentration from z) so2-other)
+      so2-shown (dated-type So2Concentration from z) (fieldIn so2Ppm line) refl)
 
   -- a 300 line
 
   module _ (type : typeIs Operation line ≡ true) where
+    no-time : (f : Field) → timeIn line ≡ f → ((k : ℕ) → f ≡ Number k → ⊥) → Here 8
+    no-time = no-number Operation type 0 (λ e z. absurd (omega arith)) (λ e. absurd (so2-other (sym e))) (omega arith)
+
     time-shown : (f : Field) → timeIn line ≡ f → Shown Here (fieldFault listedTime f)
     unfolding fieldFault
-    time-shown Blank e = no-number Operation type 0 (λ e z. absurd (omega arith)) (omega arith) Blank e (λ k g. let z : _≡_ {A = ℕ} 0 1 = cc in omega arith)
-    time-shown Malformed e =
-        no-number Operation type 0 (λ e z. absurd (omega arith)) (omega arith) Malformed e (λ k g. let z : _≡_ {A = ℕ} 0 1 = cc in omega arith)
+    time-shown Blank e = no-time Blank e (λ k g. let z : _≡_ {A = ℕ} 0 1 = cc in omega arith)
+    time-shown Malformed e = no-time Malformed e (λ k g. let z : _≡_ {A = ℕ} 0 1 = cc in omega arith)
     time-shown (Number k) e =
         test-shown Here (inRange listedTime k) 8 _ (λ g. timeOutside k type e (above k g)) (λ y.
         unless-shown Here (wholeSteps listedTime k) 42 (λ g. absurd (eqb-false (k % 1) 0 g (omega arith))))
@@ -194,7 +220,7 @@ module _ (facility line : List ℕ) where
     unfolding operatingFault
     operating-shown o date =
         or-shown Here (dateFault (dateColumn Operation) date line) _ (date-shown Operation type (λ e. o) date (dateColumn Operation) refl) (λ y.
-        field-shown Operation type 1 (λ e z. absurd (omega arith)) (λ e z. o) (omega arith) (fieldIn heatRate line) refl)
+        field-shown Operation type 1 (λ e z. absurd (omega arith)) (λ e z. o) (λ e. absurd (so2-other (sym e))) (omega arith) (fieldIn heatRate line) refl)
 
     timed-shown : (date : List ℕ) → Shown Here (timedFault date line)
     unfolding timedFault operates
@@ -222,9 +248,9 @@ facility-shown line =
     unless-shown (Shows line line) (within quarterDigit (digitsIn quarterDigit line)) 5 (λ e.
     quarterOutside type (not-within quarterDigit _ (omega arith) e)))))
 
-pub due-shows : (facility : List ℕ) (d : Due) → (d .type ≡ Operation → ⊥) → (line : List ℕ) (c : ℕ) → dueFault facility d line ≡ suc c →
+pub due-shows : (facility : List ℕ) (d : Due) → Ranked (d .type) → (line : List ℕ) (c : ℕ) → dueFault facility d line ≡ suc c →
     Shows facility line (suc c)
-due-shows facility d other line c e = rw e at (due-shown facility line d other)
+due-shows facility d r line c e = rw e at (due-shown facility line d r)
 
 pub facility-shows : (line : List ℕ) (number : ℕ) → facilityLine line ≡ FaultyFacility number → Shows line line number
 unfolding facilityLine
@@ -277,8 +303,9 @@ shows-number (quarterOutside type e) = refl
 shows-number (hourOutside t r type e) = refl
 shows-number (hourNotLater t hour r type e) = refl
 shows-number (otherDate t o type h) = refl
-shows-number (notInFormat t i o type h e) = refl
+shows-number (notInFormat t i o s type h e) = refl
 shows-number (valueOutside t i k other type h e w) = refl
 shows-number (timeOutside k type e w) = refl
 shows-number (notThousands k type e b n) = refl
 shows-number (heatGiven type e n) = refl
+shows-number (gasApart type) = refl

@@ -1,5 +1,6 @@
 // The faults of one line, in the order in which they are looked for, and what lines 100, 200 and 300 say.
 mod faults;
+pub mod gas;
 pub mod operation;
 pub mod shape;
 
@@ -89,10 +90,7 @@ pub fn hour_line(facility: &[u8], rest: &[u8], period: Period, from: u64) -> Hou
     let dated = dated_line(facility, rest, RecordType::So2Concentration, period, from);
     match dated {
         HourLine::At(hour) => {
-            let fault = faults::values_fault(
-                &rest[..layout::SO2_LENGTH],
-                RecordType::So2Concentration,
-            );
+            let fault = gas::so2_fault(&rest[..layout::SO2_LENGTH]);
             if fault != 0 {
                 return HourLine::Faulty(fault);
             }
@@ -116,6 +114,10 @@ pub fn due_fault(facility: &[u8], hour: &[u8], rest: &[u8], t: RecordType) -> u6
     let dated = faults::ranked_date_fault(line, hour, row.date);
     if dated != 0 {
         return dated;
+    }
+    let gas = gas::gas_fault(line, hour, row.gas);
+    if gas != 0 {
+        return gas;
     }
     faults::values_fault(line, t)
 }

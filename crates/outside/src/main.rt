@@ -212,10 +212,10 @@ fn sheet_room() -> [u32; 14000]
 }
 
 // Room for the cases.
-fn data_room() -> [u8; 2700000]
-    ensures { λ r. ⌜ 2700000 ≡ length r ⌝ }
+fn data_room() -> [u8; 3000000]
+    ensures { λ r. ⌜ 3000000 ≡ length r ⌝ }
 {
-    [0; 2700000]
+    [0; 3000000]
 }
 
 // Room for the longest report.

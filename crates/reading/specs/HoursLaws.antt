@@ -15,13 +15,14 @@ use Rattle.layout.specs.Layout.{lengthOf, later, bytesOf, offsetOf, shape, shap
 use Rattle.layout.specs.declared.RecordType.the-variants.{So2Concentration, Operation}
 use Rattle.lines.specs.Lines.{lines, last}
 use Rattle.lines.specs.LineLaws.{lines-at}
-use Rattle.lines.specs.LineFaults.{typeIs, operates, hourFault, hourLine}
+use Rattle.lines.specs.LineFaults.{typeIs, gasFault, operates, hourFault, hourLine}
 use Rattle.lines.specs.FaultLaws.{hour-shape, hour-values, hour-rises, hour-said}
 use Rattle.lines.specs.declared.Period.{Period}
 use Rattle.lines.specs.declared.HourLine.{HourLine}
 use Rattle.lines.specs.declared.HourLine.the-variants.{At, Faulty as FaultyHour}
 use Rattle.reading.specs.Reading.{stoppedAt, firstTypes, lastTypes, runsOf, walkEnd, walkLast, walkListed, walkLater, walkHours}
-use Rattle.reading.specs.Places.{hourStart, linesAt, numbered, having}
+use Rattle.reading.specs.Places.{hourStart, hourLineIn, linesAt, numbered, having}
+use Rattle.reading.specs.HourLineLaws.{Known, known-next}
 use Rattle.reading.specs.CleanLaws.{never-clean, due-clean, LineRight, line-right, RunsRight, runs-right, runs-append}
 use Rattle.reading.specs.ListedLaws.{listed-right}
 use Rattle.reading.specs.declared.Report.{Report}
@@ -50,14 +51,14 @@ module _ (file : List ℕ) (ends : last file ≡ 10) (facility : List ℕ) (peri
     pub size : hourStart n + totalOf (bytesOf (shapeWith n count)) (later So2Concentration) ≡ length file
     pub operating : (number : ℕ) → length (having operates (numbered number (linesAt file Operation (offsetOf (shapeWith n count) Operation 0) count))) ≡ n
 
-  later-right : (line : ℕ) (hours ls : List (List ℕ)) (r : Report) → lines (drop (hourStart (length hours)) file) ≡ ls →
+  later-right : (line : ℕ) (hours ls : List (List ℕ)) (r : Report) → Known file hours → lines (drop (hourStart (length hours)) file) ≡ ls →
       hourStart (length hours) ≤ length file →
       walkLater facility period line hours ls ≡ Clean r → LaterRight (length hours) r
-  unfolding walkLater walkListed walkLast RunsRight totalOf
-  later-right line hours ls r e b w =
+  unfolding walkLater walkListed walkLast RunsRight totalOf gasFault
+  later-right line hours ls r known e b w =
       let n = length hours in
       let d = due-clean facility line (runsOf firstTypes hours) ls (λ next rest. walkListed facility period next hours rest) r w in
-      let f = runs-right file ends facility firstTypes (shape n) hours (d .0) (hourStart n) (refl, (refl, (refl, tt))) b (rw e (d .1)) in
+      let f = runs-right file ends facility firstTypes (shape n) hours (d .0) (hourStart n) known (refl, (refl, (refl, tt))) b (rw e (d .1)) in
       let here = line + length (runsOf firstTypes hours) in
       let at = hourStart n + totalOf (bytesOf (shape n)) firstTypes in
       let o = listed-right file ends facility period quarter (λ next rest. walkLast facility period (shapeWith n (next - here)) next hours rest) r
@@ -67,7 +68,7 @@ module _ (file : List ℕ) (ends : last file ≡ 10) (facility : List ℕ) (peri
       let report : Report = record { period = period; shape = s } in
       let next = at + (lengthOf Operation + 1) * o .count in
       let c = due-clean facility (here + o .count) (runsOf lastTypes hours) (lines (drop next file)) (walkEnd report) r (rw z at (o .next)) in
-      let l = runs-right file ends facility lastTypes s hours (c .0) next (refl, (refl, (refl, (refl, tt)))) (o .room) (c .1) in
+      let l = runs-right file ends facility lastTypes s hours (c .0) next known (refl, (refl, (refl, (refl, tt)))) (o .room) (c .1) in
       let q = end-clean report (here + o .count + length (runsOf lastTypes hours)) (c .0) r (c .2) in
       let v = file-over (next + totalOf (bytesOf s) lastTypes) (l .2) (l .1 ∙ q .0) in
       let y : at ≡ offsetOf s Operation 0 = omega arith in
@@ -75,7 +76,7 @@ module _ (file : List ℕ) (ends : last file ≡ 10) (facility : List ℕ) (peri
         count = o .count;
         report = q .1;
         few = omega (arith, o .most);
-        runs = runs-append file ends facility firstTypes (Operation ∷ lastTypes) s (hourStart n) (f .0) (o .each, l .0);
+        runs = runs-append file ends facility firstTypes (Operation ∷ lastTypes) s (hourStart n) (f .0) ((λ k h. (o .each k h, refl)), l .0);
         size = omega (arith, v);
         operating = rw (← y) (o .operating);
       }
@@ -89,15 +90,15 @@ module _ (file : List ℕ) (ends : last file ≡ 10) (facility : List ℕ) (peri
     pub later : LaterRight hours r
 
   after-hours : (line k : ℕ) (hours ls : List (List ℕ)) (r : Report) → lines (drop (hourStart k) file) ≡ ls → hourStart k ≤ length file → length hours ≡ k →
-      k ≤ mostHours →
+      Known file hours → k ≤ mostHours →
       walkLater facility period line hours ls ≡ Clean r → HoursRight k r
-  after-hours line k hours ls r e b l m w =
+  after-hours line k hours ls r e b l known m w =
       record {
         hours = length hours;
         more = omega arith;
         most = omega arith;
         each = λ j p h. absurd (omega arith);
-        later = later-right line hours ls r (rw l e) (rw l b) w;
+        later = later-right line hours ls r known (rw l e) (rw l b) w;
       }
 
   -- a 200 line without fault stands in its place, and the lines that follow it in theirs
@@ -111,13 +112,13 @@ module _ (file : List ℕ) (ends : last file ≡ 10) (facility : List ℕ) (peri
 
   pub hours-right : (ls : List (List ℕ)) (line from k : ℕ) (hours : List (List ℕ)) (r : Report) → lines (drop (hourStart k) file) ≡ ls →
       hourStart k ≤ length file →
-      length hours ≡ k → k ≤ from → from ≤ mostHours → walkHours facility period line from hours ls ≡ Clean r → HoursRight k r
+      length hours ≡ k → Known file hours → k ≤ from → from ≤ mostHours → walkHours facility period line from hours ls ≡ Clean r → HoursRight k r
   unfolding walkHours
-  hours-right [] line from k hours r e b l p q w = after-hours line k hours [] r e b l (omega arith) w
-  hours-right (x ∷ ls) line from k hours r e b l p q w =
+  hours-right [] line from k hours r e b l known p q w = after-hours line k hours [] r e b l known (omega arith) w
+  hours-right (x ∷ ls) line from k hours r e b l known p q w =
       go (typeIs So2Concentration x) w (hourLine facility period from x) refl
-      (λ h a c d g. hours-right ls (line + 1) (h + 1) (suc k) (hours ++ (x ∷ [])) r a c
-      (length-append hours (x ∷ []) ∙ omega arith) d g)
+      (λ h t a c d g. hours-right ls (line + 1) (h + 1) (suc k) (hours ++ (x ∷ [])) r a c
+      (length-append hours (x ∷ []) ∙ omega arith) (known-next file hours x known (rw l t)) d g)
     where
       next : ℕ → Reading
       next hour = walkHours facility period (line + 1) (hour + 1) (hours ++ (x ∷ [])) ls
@@ -127,16 +128,17 @@ module _ (file : List ℕ) (ends : last file ≡ 10) (facility : List ℕ) (peri
 
       go : (t : Bool) → elim t [ false ↦ walkLater facility period line hours (x ∷ ls) | true ↦ said (hourLine facility period from x) ] ≡ Clean r →
           (h : HourLine) → hourLine facility period from x ≡ h →
-          ((hour : ℕ) → lines (drop (hourStart (suc k)) file) ≡ ls → hourStart (suc k) ≤ length file → suc k ≤ hour + 1 → hour + 1 ≤ mostHours → next hour
-          ≡ Clean r → HoursRight (suc k) r) →
+          ((hour : ℕ) → x ≡ hourLineIn file k → lines (drop (hourStart (suc k)) file) ≡ ls → hourStart (suc k) ≤ length file → suc k ≤ hour + 1 →
+          hour + 1 ≤ mostHours → next hour ≡ Clean r → HoursRight (suc k) r) →
           HoursRight k r
-      go false v h g ih = after-hours line k hours (x ∷ ls) r e b l (omega arith) v
+      go false v h g ih = after-hours line k hours (x ∷ ls) r e b l known (omega arith) v
       go true v (FaultyHour number) g ih = never-clean number line r (rw g at v)
       go true v (At hour) g ih =
           let f = hour-said facility period from x hour g in
           let s = stands x ls from k e (f .0) in
           let n = hour-rises facility period from x (f .0) quarter in
-          let h = ih hour (s .1) (s .2) (omega (arith, f .1)) (omega (arith, f .1)) (rw g at v) in
+          let there : x ≡ hourLineIn file k = let y = s .0 .next in cc in
+          let h = ih hour there (s .1) (s .2) (omega (arith, f .1)) (omega (arith, f .1)) (rw g at v) in
           record {
             hours = h .hours;
             more = omega (arith, h .more);

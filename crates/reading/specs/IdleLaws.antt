@@ -19,9 +19,10 @@ use Rattle.layout.specs.declared.Shape.{Shape}
 use Rattle.stamp.specs.StampLaws.{is-quarter}
 use Rattle.formulas.specs.declared.hour.Hour.{Hour}
 use Rattle.lines.specs.Lines.{lines, last}
-use Rattle.lines.specs.LineFaults.{typeIs, fieldIn, facilityLine, hourLine, Due, dueOf, dueFault, operates, operationLine}
+use Rattle.lines.specs.LineFaults.{typeIs, fieldIn, hasGas, facilityLine, hourLine, Due, dueOf, dueFault, operates, operationLine}
 use Rattle.lines.specs.FaultLaws.{type-same, shape-type, facility-shape, facility-quarter, facility-said, due-shape, dated-rises}
 use Rattle.lines.specs.OperationLaws.{said-operating, said-idle, operation-dated, operation-earlier, operation-said, operating-left}
+use Rattle.lines.specs.ShowsLaws.{Ranked}
 use Rattle.lines.specs.declared.Period.{Period}
 use Rattle.lines.specs.declared.FacilityLine.{FacilityLine}
 use Rattle.lines.specs.declared.FacilityLine.the-variants.{Of, Faulty as FaultyFacility}
@@ -31,13 +32,13 @@ use Rattle.lines.specs.declared.operation.OperationLine.{OperationLine}
 use Rattle.lines.specs.declared.operation.OperationLine.the-variants.{Operating, Idle, Faulty as FaultyOperation}
 use Rattle.reading.specs.Reading.{stoppedAt, firstTypes, lastTypes, runOf, runsOf, After, walkDue, endOperations, walkOperations}
 use Rattle.reading.specs.Reading.{walkEnd, walkLast, walkListed, walkLater, walkHours, walk, readOf, nextDate}
-use Rattle.reading.specs.Recorded.{Line, linesWith, idle, recordOfType, recordsOf, valueOn, hourAt, hourCount, hoursOf, totalsIn}
+use Rattle.reading.specs.Recorded.{Line, linesWith, idle, recordOfType, recordsOf, recordAt, valueOn, hourAt, hourCount, hoursOf, totalsIn}
 use Rattle.reading.specs.RecordedLaws.{operation-idle, other-idle, typed-idle}
 use Rattle.reading.specs.Idle.{withoutIdle, WithoutIdle}
 use Rattle.reading.specs.CleanLaws.{Matches, ended-walked, never-clean, due-clean, matches-walked}
 use Rattle.reading.specs.ListedLaws.{one-less}
 use Rattle.reading.specs.HoursLaws.{end-clean}
-use Rattle.reading.specs.RefusalLaws.{runs-other}
+use Rattle.reading.specs.RefusalLaws.{runs-ranked}
 use Rattle.reading.specs.declared.Report.{Report}
 use Rattle.reading.specs.declared.Reading.{Reading}
 use Rattle.reading.specs.declared.Reading.the-variants.{Clean}
@@ -82,11 +83,12 @@ module _ (file other : List ℕ) (w : WithoutIdle file other) where
   unfolding recordsOf
   same-texts t = ap (λ (ls : List (List ℕ)). texts (linesWith (recordOfType t) 1 ls)) (w .lines) ∙ texts-kept t (lines file) 1 1
 
+  same-text : (t : RecordType) (k : ℕ) → recordAt other t k .text ≡ recordAt file t k .text
+  same-text t k = text-at (recordsOf other t) k ∙ ap (λ (x : List (List ℕ)). getD x k []) (same-texts t) ∙ sym (text-at (recordsOf file t) k)
+
   same-value : (t : RecordType) (k i : ℕ) → valueOn other t k i ≡ valueOn file t k i
   unfolding valueOn
-  same-value t k i =
-      let e = text-at (recordsOf other t) k ∙ ap (λ (x : List (List ℕ)). getD x k []) (same-texts t) ∙ sym (text-at (recordsOf file t) k) in
-      ap (λ (l : List ℕ). numberOf (fieldIn (valueAt t i) l)) e
+  same-value t k i = ap (λ (l : List ℕ). numberOf (fieldIn (valueAt t i) l)) (same-text t k)
 
   same-count : hourCount other ≡ hourCount file
   same-count = sym (texts-length (recordsOf other So2Concentration)) ∙ ap length (same-texts So2Concentration) ∙ texts-length (recordsOf file So2Concentration)
@@ -95,6 +97,7 @@ module _ (file other : List ℕ) (w : WithoutIdle file other) where
   unfolding hourAt
   same-hour k = λ i. record {
     time = same-value Operation k 0 i;
+    gas = hasGas (same-text So2Mass k i);
     readings = record {
       so2 = same-value So2Concentration k 0 i;
       nox = same-value NoxConcentration k 0 i;
@@ -143,13 +146,13 @@ kept-other : (t : RecordType) → (eqb (codeOf t) (codeOf Operation) ≡ false) 
 kept-other t e same = eqb-false _ _ e (ap codeOf same)
 
 -- lines that are due
-due-kept : (facility : List ℕ) (due : List Due) → All (λ (d : Due). d .type ≡ Operation → ⊥) due → (ls rest : List (List ℕ)) → Matches facility due ls rest →
+due-kept : (facility : List ℕ) (due : List Due) → All (λ (d : Due). Ranked (d .type)) due → (ls rest : List (List ℕ)) → Matches facility due ls rest →
     Matches facility due (withoutIdle ls) (withoutIdle rest)
 due-kept facility [] o ls rest m = ap withoutIdle m
 due-kept facility (d ∷ ds) o [] rest m = absurd m
 due-kept facility (d ∷ ds) o (l ∷ ls) rest m =
     let t = shape-type (d .type) l (due-shape facility d l (m .0)) in
-    rw (kept-line l ls (typed-idle (d .type) (o .0) l t)) (m .0, due-kept facility ds (o .1) ls rest (m .1))
+    rw (kept-line l ls (typed-idle (d .type) (o .0 .listed) l t)) (m .0, due-kept facility ds (o .1) ls rest (m .1))
 
 module _ (facility : List ℕ) (period : Period) where
   -- behind the 300 lines of a file: the rest of it, also where the idle ones are left out
@@ -233,7 +236,7 @@ module _ (facility : List ℕ) (period : Period) where
   last-kept s s′ line line′ hours ls r e =
       let d = due-clean facility line (runsOf lastTypes hours) ls (walkEnd (record { period = period; shape = s })) r e in
       let c = end-clean (record { period = period; shape = s }) _ (d .0) r (d .2) in
-      let m = due-kept facility (runsOf lastTypes hours) (runs-other lastTypes hours refl) ls (d .0) (d .1) in
+      let m = due-kept facility (runsOf lastTypes hours) (runs-ranked lastTypes hours refl refl) ls (d .0) (d .1) in
       let n : Matches facility (runsOf lastTypes hours) (withoutIdle ls) [] = rw (c .0) at m in
       (matches-walked facility line′ (runsOf lastTypes hours) (withoutIdle ls) [] _ n, c .1)
 
@@ -252,7 +255,7 @@ module _ (facility : List ℕ) (period : Period) where
   later-kept q line line′ hours ls r e =
       let due = runsOf firstTypes hours in
       let d = due-clean facility line due ls (λ next rest. walkListed facility period next hours rest) r e in
-      let m = due-kept facility due (runs-other firstTypes hours refl) ls (d .0) (d .1) in
+      let m = due-kept facility due (runs-ranked firstTypes hours refl refl) ls (d .0) (d .1) in
       matches-walked facility line′ due (withoutIdle ls) (withoutIdle (d .0)) _ m ∙ listed-kept q (line + length due) (line′ + length due) hours (d .0) r (d .2)
 
   -- behind the 200 lines no other follows, also without the idle lines

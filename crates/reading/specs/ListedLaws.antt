@@ -13,7 +13,7 @@ use Rattle.layout.specs.Layout.{lengthOf}
 use Rattle.layout.specs.declared.RecordType.the-variants.{Operation}
 use Rattle.lines.specs.Lines.{lines, last}
 use Rattle.lines.specs.LineFaults.{typeIs, operates, operationLine}
-use Rattle.lines.specs.FaultLaws.{shape-type, dated-rises}
+use Rattle.lines.specs.FaultLaws.{shape-type, ValuesRight, values-right, dated-rises}
 use Rattle.lines.specs.OperationLaws.{Said, said-operating, said-idle, operation-dated, operation-shape, operating-values, operating-left}
 use Rattle.lines.specs.declared.Period.{Period}
 use Rattle.lines.specs.declared.operation.OperationLine.{OperationLine}
@@ -84,7 +84,9 @@ module _ (file : List ℕ) (ends : last file ≡ 10) (facility : List ℕ) (peri
         let sh = operation-shape facility period from date x (s .right) in
         let t = shape-type Operation x sh in
         let runs : idle x ≡ false → operates x ≡ true = λ i. not-false (operates x) (sym (operation-idle x t) ∙ i) in
-        let l = line-right file ends facility Operation x ls at e sh (λ i. operating-values facility period from date x (s .right) (runs i)) in
+        let values : idle x ≡ false → ValuesRight Operation x =
+        λ i. values-right Operation x (operating-values facility period from date x (s .right) (runs i)) in
+        let l = line-right file ends facility Operation x ls at e sh values in
         let n = dated-rises facility period Operation from x (operation-dated facility period from date x (s .right)) quarter in
         let h = ih (l .1) (l .2) (omega (arith, n .1, s .hour)) in
         let z : at + size + size * h .count ≡ at + size * suc (h .count) = omega arith in
@@ -94,7 +96,7 @@ module _ (file : List ℕ) (ends : last file ≡ 10) (facility : List ℕ) (peri
           count = suc (h .count);
           most = omega (arith, h .most, n .0, s .hour);
           room = rw z at (h .room);
-          each = run-more file ends facility Operation at (h .count) (l .0) (h .each);
+          each = run-more file ends facility (λ k at. LineRight file ends facility Operation at) Operation at (h .count) (l .0) (h .each);
           operating = λ number.
               operating-more (take (lengthOf Operation) (drop at file)) (linesAt file Operation (at + size) (h .count)) number (length left) (length hours) b
               (ap operates there ∙ s .operates) (h .operating (suc number)) (λ i. ap length (idles i)) operated;

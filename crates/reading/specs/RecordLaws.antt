@@ -78,7 +78,7 @@ module _ (file : List ℕ) (ends : last file ≡ 10) (facility : List ℕ) where
     unfolding RunsRight totalOf
     runs-lines [] at r = let z : at + 0 ≡ at = omega arith in (rw z, tt)
     runs-lines (t ∷ ts) at r =
-        let f = run-lines t (countOf s t) at (r .0) in
+        let f = run-lines t (countOf s t) at (λ k h. r .0 k h .0) in
         let i = runs-lines ts (at + bytesOf s t) (r .1) in
         let z : at + bytesOf s t + totalOf (bytesOf s) ts ≡ at + (bytesOf s t + totalOf (bytesOf s) ts) = omega arith in (
           f .0

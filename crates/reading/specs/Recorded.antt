@@ -13,7 +13,7 @@ use Rattle.layout.specs.declared.RecordType.the-variants.{QuarterTotals, So2Mas
 use Rattle.formulas.specs.declared.hour.Hour.{Hour}
 use Rattle.totals.specs.declared.Quarter.{Quarter}
 use Rattle.lines.specs.Lines.{lines, HasLine, textOf}
-use Rattle.lines.specs.LineFaults.{typeIs, fieldIn, operates}
+use Rattle.lines.specs.LineFaults.{typeIs, fieldIn, hasGas, operates}
 
 -- a line of a file: its place among the lines, from 1, and its columns
 pub record Line : Type 0 where
@@ -54,6 +54,7 @@ valueOn file t k i = numberOf (fieldIn (valueAt t i) (recordAt file t k .text))
 unfoldable pub hourAt : List ℕ → ℕ → Hour
 hourAt file k = record {
   time = valueOn file Operation k 0;
+  gas = hasGas (recordAt file So2Mass k .text);
   readings = record {
     so2 = valueOn file So2Concentration k 0;
     nox = valueOn file NoxConcentration k 0;

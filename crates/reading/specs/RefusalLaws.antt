@@ -19,7 +19,7 @@ use Rattle.lines.specs.LineFaults.{typeIs, periodOn, facilityLine, hourLine, Du
 use Rattle.lines.specs.FaultLaws.{facility-said}
 use Rattle.lines.specs.Shows.{Shows, ofLineChecks}
 use Rattle.lines.specs.Shows.Shows.{otherType}
-use Rattle.lines.specs.ShowsLaws.{facility-shows, hour-shows, due-shows, operation-shows, shows-number}
+use Rattle.lines.specs.ShowsLaws.{Ranked, facility-shows, hour-shows, due-shows, operation-shows, shows-number}
 use Rattle.lines.specs.declared.Period.{Period}
 use Rattle.lines.specs.declared.FacilityLine.{FacilityLine}
 use Rattle.lines.specs.declared.FacilityLine.the-variants.{Of, Faulty as FaultyFacility}
@@ -47,19 +47,28 @@ abbrev ByRow : List ℕ → Reading → Type 0
 ByRow file (Clean r) = Unit {0}
 ByRow file (Refused r) = Refuses file (r .number) (r .line)
 
--- the lines that are due in front of the 300 lines and behind them are no 300 lines
-type-other : (t : RecordType) (hours : List (List ℕ)) (rest : List Due) → (t ≡ Operation → ⊥) → All (λ (d : Due). d .type ≡ Operation → ⊥) rest →
-    All (λ (d : Due). d .type ≡ Operation → ⊥) (map (dueOf t) hours ++ rest)
-type-other t [] rest o a = a
-type-other t (date ∷ hours) rest o a = (o, type-other t hours rest o a)
+-- the lines that are due in front of the 300 lines and behind them are judged by the 200 line of their rank
+abbrev AllRanked : List Due → Type 0
+AllRanked ds = All (λ (d : Due). Ranked (d .type)) ds
 
-pub runs-other : (ts : List RecordType) (hours : List (List ℕ)) → absent (codeOf Operation) ts ≡ true →
-    All (λ (d : Due). d .type ≡ Operation → ⊥) (runsOf ts hours)
+type-ranked : (t : RecordType) (hours : List (List ℕ)) (rest : List Due) → Ranked t → AllRanked rest → AllRanked (map (dueOf t) hours ++ rest)
+type-ranked t [] rest r a = a
+type-ranked t (hour ∷ hours) rest r a = (r, type-ranked t hours rest r a)
+
+-- a type that is not among these
+absent-other : (u t : RecordType) (ts : List RecordType) → absent (codeOf u) (t ∷ ts) ≡ true → (t ≡ u → ⊥) × (absent (codeOf u) ts ≡ true)
+absent-other u t ts n =
+    let b = both (not (eqb (codeOf t) (codeOf u))) (absent (codeOf u) ts) n in
+    ((λ e. eqb-false _ _ (not-true _ (b .0)) (ap codeOf e)), b .1)
+
+pub runs-ranked : (ts : List RecordType) (hours : List (List ℕ)) → absent (codeOf So2Concentration) ts ≡ true → absent (codeOf Operation) ts ≡ true →
+    AllRanked (runsOf ts hours)
 unfolding runsOf runOf
-runs-other [] hours n = tt
-runs-other (t ∷ ts) hours n =
-    let b = both (not (eqb (codeOf t) (codeOf Operation))) (absent (codeOf Operation) ts) n in
-    type-other t (hoursDue (recordOf t .run) hours) (runsOf ts hours) (λ e. eqb-false _ _ (not-true _ (b .0)) (ap codeOf e)) (runs-other ts hours (b .1))
+runs-ranked [] hours m n = tt
+runs-ranked (t ∷ ts) hours m n =
+    let a = absent-other So2Concentration t ts m in
+    let b = absent-other Operation t ts n in
+    type-ranked t (hoursDue (recordOf t .run) hours) (runsOf ts hours) (record { first = a .0; listed = b .0 }) (runs-ranked ts hours (a .1) (b .1))
 
 module _ (file : List ℕ) where
   from-start : LinesFrom file 1 (lines file)
@@ -94,7 +103,7 @@ module _ (file facility : List ℕ) (first : textOf file 1 ≡ facility) where
   abbrev Follows : After → Type 0
   Follows after = (line : ℕ) (ls : List (List ℕ)) → LinesFrom file line ls → ByRow file (after line ls)
 
-  due-row : (after : After) → Follows after → (line : ℕ) (due : List Due) → All (λ (d : Due). d .type ≡ Operation → ⊥) due → (ls : List (List ℕ)) →
+  due-row : (after : After) → Follows after → (line : ℕ) (due : List Due) → AllRanked due → (ls : List (List ℕ)) →
       LinesFrom file line ls → ByRow file (walkDue facility line due ls after)
   unfolding walkDue
   due-row after follows line [] o ls w = follows line ls w
@@ -116,7 +125,7 @@ module _ (file facility : List ℕ) (first : textOf file 1 ≡ facility) where
 
   last-row : (period : Period) (s : Shape) (hours : List (List ℕ)) → Follows (λ line. walkLast facility period s line hours)
   unfolding walkLast
-  last-row period s hours line ls w = due-row (walkEnd _) (end-row _) line (runsOf lastTypes hours) (runs-other lastTypes hours refl) ls w
+  last-row period s hours line ls w = due-row (walkEnd _) (end-row _) line (runsOf lastTypes hours) (runs-ranked lastTypes hours refl refl) ls w
 
   -- the 300 lines
 
@@ -159,7 +168,7 @@ module _ (file facility : List ℕ) (first : textOf file 1 ≡ facility) where
   unfolding walkLater walkListed
   later-row line hours ls w =
       due-row _ (λ next rest v. operations-row _ (λ end. last-row (periodOn facility) (shapeWith (length hours) (end - next)) hours end) rest next 0 hours v)
-      line (runsOf firstTypes hours) (runs-other firstTypes hours refl) ls w
+      line (runsOf firstTypes hours) (runs-ranked firstTypes hours refl refl) ls w
 
   hours-row : (ls : List (List ℕ)) (line from : ℕ) (hours : List (List ℕ)) → LinesFrom file line ls →
       ByRow file (walkHours facility (periodOn facility) line from hours ls)

@@ -11,7 +11,7 @@ use Rattle.lines.specs.Shows.{Shows}
 pub data Refuses (file : List ℕ) : ℕ → ℕ → Type 0 where
   -- the whole file: it is empty, or its last byte is another
   unended : (last file ≡ 10 → ⊥) → Refuses file 1 0
-  -- 2 to 9, 43 and 47: a line, with the fault that it shows
+  -- 2 to 9, 43, 47 and 49: a line, with the fault that it shows
   faulty : (number line : ℕ) → HasLine file line → Shows (textOf file 1) (textOf file line) number → Refuses file number line
   -- after the last line
   missing : Refuses file 10 (length (lines file) + 1)

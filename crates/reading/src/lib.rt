@@ -1,4 +1,4 @@
-// File and line checks of a quarterly report: refusals 1 to 10, 43 and 47.
+// File and line checks of a quarterly report: refusals 1 to 10, 43, 47 and 49.
 mod walk;
 
 use layout::Shape;

@@ -11,7 +11,7 @@ ghost use Prim.Native.Nat.{_<_};
 ghost use lib.ListN.{length};
 ghost use Rattle.columns.specs.Number.{numberOf};
 ghost use Rattle.layout.specs.Layout.{valueCount, valueAt, countOf};
-ghost use Rattle.lines.specs.LineFaults.{fieldIn};
+ghost use Rattle.lines.specs.LineFaults.{fieldIn, hasGas};
 ghost use Rattle.reading.specs.Recorded.{hourAt, totalsIn};
 ghost use Rattle.reading.specs.Places.{lineAt, Standing, operatingFrom, operatingPlace};
 ghost use Rattle.reading.specs.Places.{Stands};
@@ -25,6 +25,15 @@ fn value_in(file: &[u8], s: Shape, t: RecordType, p: usize, i: usize) -> u64
     let v = layout::value_at(t, i);
     let start = layout::offset_of(s, t, p) + v.start;
     columns::number_of(columns::read_number(file, start, v.width, v.decimals))
+}
+
+// Whether the 310 line of operating hour k has GAS, in a file of a shape whose lines are right.
+fn gas_in(file: &[u8], s: Shape, k: usize) -> bool
+    requires { ⌜ Standing (now file) s × (k < s .hours) ⌝ }
+    ensures { λ r. ⌜ r ≡ hasGas (lineAt (now (file .entry)) s RecordType.So2Mass k .text) ⌝ }
+{
+    let from = layout::offset_of(s, RecordType::So2Mass, k);
+    lines::gas::has_gas(&file[from..from + layout::SO2_MASS_LENGTH])
 }
 
 // An operating hour among the 300 lines: the place of its line, from 0, and its time.
@@ -57,6 +66,7 @@ pub fn hour(file: &[u8], s: Shape, k: usize, at: ListedHour) -> Hour
 {
     Hour {
         time: at.time,
+        gas: gas_in(file, s, k),
         readings: Readings {
             so2: value_in(file, s, RecordType::So2Concentration, k, 0),
             nox: value_in(file, s, RecordType::NoxConcentration, k, 0),

@@ -10,8 +10,9 @@ use Rattle.exact.specs.Logic.{All}
 use Rattle.exact.specs.Fraction.{Fraction, whole}
 use Rattle.exact.specs.Rounding.{Records}
 use Rattle.layout.specs.Layout.{Within, so2Ppm, noxPpm, co2Percent, flowScfh}
-use Rattle.formulas.specs.Hour.{Unrounded}
-use Rattle.formulas.specs.Formulas.{equationOf, pairOf, RoundsTo}
+use Rattle.formulas.specs.Hour.{Monitored, setOf}
+use Rattle.formulas.specs.Formulas.{entryOf, RoundsTo}
+use Rattle.formulas.specs.declared.hour.Hour.{Hour}
 use Rattle.formulas.specs.declared.hour.Quantity.{Quantity}
 use Rattle.sheet.specs.Sheet.{hourWords, so2Kind, noxKind, co2Kind, flowKind, sheetKind, sheetHour, recordedReadings}
 use Rattle.recorder.specs.Recording.{exactOf, usable, channels, columnOf, recordingUnit, readingOf}
@@ -29,7 +30,7 @@ unroundedReading (Measured x) = exactOf x
 unroundedReading (Substituted x) = exactOf x
 unroundedReading Absent = whole 0
 
-abbrev pub unroundedOf : RecorderHour → Unrounded
+abbrev pub unroundedOf : RecorderHour → Monitored
 unroundedOf h = record {
   so2 = unroundedReading (h .so2);
   nox = unroundedReading (h .nox);
@@ -64,6 +65,11 @@ keepSubstituted Absent c cs = cs
 abbrev pub substitutedAmong : RecorderHour → List Channel → List Channel
 substitutedAmong h [] = []
 substitutedAmong h (c ∷ cs) = keepSubstituted (readingOf c h) c (substitutedAmong h cs)
+
+-- an hour of monitors that has what a sheet's hour k records
+pub record HourOf (sheet : List ℕ) (k : ℕ) (hour : Hour) : Type 0 where
+  pub monitored : hour .gas ≡ false
+  pub readings : hour .readings ≡ recordedReadings (sheetHour sheet k)
 
 -- a reading has a float
 abbrev pub Reads : RecorderReading → Float → Type 0
@@ -102,7 +108,7 @@ pub record HourRefuses (h : RecorderHour) (number : ℕ) : Type 0 where
 pub record RecorderPromise (h : RecorderHour) (r : Recorded) : Type 0 where
   pub given : (w : HourWords) → r ≡ Words w → (c : Channel) → Good c (readingOf c h)
   pub rounds : (w : HourWords) → r ≡ Words w → (sheet : List ℕ) (k : ℕ) → StandIn w sheet k →
-      (q : Quantity) → RoundsTo (equationOf q (recordedReadings (sheetHour sheet k))) (pairOf q (unroundedOf h))
+      (hour : Hour) → HourOf sheet k hour → (q : Quantity) → RoundsTo q hour (entryOf q (setOf (unroundedOf h)))
   pub taken : (w : HourWords) → r ≡ Words w → (sheet : List ℕ) (k : ℕ) → StandIn w sheet k → TakenIn sheet k
   pub counted : (w : HourWords) → r ≡ Words w → w .substituted ≡ length (substitutedAmong h channels)
   pub refused : (number : ℕ) → r ≡ Refused number → HourRefuses h number

@@ -15,15 +15,17 @@ use Rattle.exact.specs.Faults.{_orElse_, unless}
 use Rattle.exact.specs.Logic.{All}
 use Rattle.layout.specs.Layout.{Within, inRange, thousandsOf}
 use Rattle.layout.specs.LayoutLaws.{in-range-true, true-in-range, thousands-back}
-use Rattle.formulas.specs.Formulas.{equationOf, pairOf, RoundsTo}
+use Rattle.formulas.specs.Hour.{setOf}
+use Rattle.formulas.specs.Formulas.{entryOf, RoundsTo}
 use Rattle.formulas.specs.declared.hour.Readings.{Readings}
+use Rattle.formulas.specs.declared.hour.Hour.{Hour}
 use Rattle.formulas.specs.declared.hour.Quantity.{Quantity}
 use Rattle.formulas.specs.declared.hour.Quantity.the-variants.{Heat, So2 as So2Rate, Nox as NoxRate, Co2 as Co2Rate}
 use Rattle.sheet.specs.Sheet.{hourWords, valueSize, wordKind, wordValue, wordOf, sheetKind, sheetValue, sheetHour, recordedReadings}
 use Rattle.sheet.specs.SheetLaws.{word-kind, word-value}
 use Rattle.recorder.specs.Recording.{exactOf, usable, unitsIn, channels, kindOf, columnOf, recordingUnit, readingOf, columnNumber, floatFault, faultOf, wordFor}
 use Rattle.recorder.specs.Recording.{substitutedIn, wordsFor, recordedOf}
-use Rattle.recorder.specs.Promise.{unroundedReading, unroundedOf, StandIn, TakenIn, keepSubstituted, substitutedAmong}
+use Rattle.recorder.specs.Promise.{unroundedReading, unroundedOf, StandIn, TakenIn, HourOf, keepSubstituted, substitutedAmong}
 use Rattle.recorder.specs.Promise.{Reads, RecordsIn, Good, ReadingShows, absent, unusable, outside, HourRefuses, RecorderPromise}
 use Rattle.recorder.specs.ChannelLaws.{most-held}
 use Rattle.recorder.specs.RecorderLaws.{Given, words-given, number-refused}
@@ -183,17 +185,17 @@ module _ (h : RecorderHour) (w : HourWords) (g : Given h w) (sheet : List ℕ) (
     flow = within-there Flow;
   }
 
-  records-there : (c : Channel) →
-      Records (recordingUnit c) (unroundedReading (readingOf c h)) (channelCount c (recordedReadings (sheetHour sheet k)))
-  records-there c =
+  records-there : (hour : Hour) → HourOf sheet k hour → (c : Channel) →
+      Records (recordingUnit c) (unroundedReading (readingOf c h)) (channelCount c (hour .readings))
+  records-there hour o c =
       let t = good-there c in
-      rw (reads-exact (readingOf c h) (t .float) (t .reads), count-read c sheet k (t .units) (value-there c)) (t .recorded .records)
+      rw (o .readings, reads-exact (readingOf c h) (t .float) (t .reads), count-read c sheet k (t .units) (value-there c)) (t .recorded .records)
 
-  rounds-there : (q : Quantity) → RoundsTo (equationOf q (recordedReadings (sheetHour sheet k))) (pairOf q (unroundedOf h))
-  rounds-there Heat = record { left = records-there Co2; right = records-there Flow }
-  rounds-there So2Rate = record { left = records-there So2; right = records-there Flow }
-  rounds-there NoxRate = record { left = records-there Nox; right = records-there Co2 }
-  rounds-there Co2Rate = record { left = records-there Co2; right = records-there Flow }
+  rounds-there : (hour : Hour) → HourOf sheet k hour → (q : Quantity) → RoundsTo q hour (entryOf q (setOf (unroundedOf h)))
+  rounds-there hour o Heat = record { left = records-there hour o Co2; right = records-there hour o Flow }
+  rounds-there hour o So2Rate = (o .monitored, record { left = records-there hour o So2; right = records-there hour o Flow })
+  rounds-there hour o NoxRate = record { left = records-there hour o Nox; right = records-there hour o Co2 }
+  rounds-there hour o Co2Rate = record { left = records-there hour o Co2; right = records-there hour o Flow }
 
 -- the substituted readings, counted
 

@@ -1,6 +1,7 @@
 -- The fifth sum says what F-24 gives, and the total formed of it lies within 1/20 ton.
 use Prim.Native.Nat.{ℕ, _*_}
 use mathlib.Core.Path.{_≡_, refl}
+use mathlib.Core.Bool.{false}
 use mathlib.Core.List.{List, [], _∷_, map}
 use native.Mathlib.Nat.{mul-one}
 use native.Mathlib.Omega.{arith}
@@ -53,6 +54,7 @@ half-tenths = refl
 abbrev sevenHours : (rate : ℕ) → List Hour
 sevenHours rate = replicate 7 (record {
   time = 100;
+  gas = false;
   readings = record { so2 = 0; nox = 0; co2 = 0; flow = 0; fc = 0 };
   figures = record { heat = 100; so2 = 0; nox = rate; co2 = 0 };
 })

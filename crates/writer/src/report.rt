@@ -26,6 +26,7 @@ fn recorded_hour(h: SheetHour) -> Hour
     let readings = sheet::recorded_readings(h);
     Hour {
         time: h.time,
+        gas: false,
         readings,
         figures: formulas::rounded_figures(readings),
     }

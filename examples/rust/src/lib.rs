@@ -243,6 +243,7 @@ pub const fn meaning(number: u64) -> &'static str {
         46 => "a reading of the recorder's hour, once rounded, is outside its range or its columns",
         47 => "the time is 0.00 and the heat input is not blank",
         48 => "line 301's NOx tons differ from the total formed",
+        49 => "GAS on the 310 line and a blank SO2 reading on the 200 line of the same rank do not go together",
         _ => "no refusal has this number",
     }
 }

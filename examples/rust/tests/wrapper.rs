@@ -54,6 +54,26 @@ fn line_301_has_nox_tons() {
     }
 }
 
+#[test]
+fn a_gas_hour_has_gas_and_no_so2_reading() {
+    let gas_hour = WORKED_HOUR
+        .replace("            250.0\n", "                 \n")
+        .replace("         830.0   \n", "           0.8GAS\n")
+        .replace("        0.2       68.4", "        0.0       68.4");
+    let accepted = Quarter { hours: 1, so2: 0, co2: 684, heat: 6_667, nox: 358, nox_tons: 1 };
+    assert_eq!(edr::check(gas_hour.as_bytes()), Answer::Accepted(accepted));
+    let changes = [
+        ("0.8GAS", "0.9GAS", 12, 8),
+        ("0.8GAS", "0.8gas", 49, 8),
+        ("                 \n", "            250.0\n", 49, 8),
+        ("                 \n", "            25x.0\n", 8, 2),
+    ];
+    for (old, new, number, line) in changes {
+        let file = gas_hour.replacen(old, new, 1);
+        assert_eq!(edr::check(file.as_bytes()), Answer::Refused { number, line }, "{new}");
+    }
+}
+
 /// What stands in elements that a call must leave.
 const KEPT: u64 = 77;
 

@@ -13,8 +13,17 @@ use crate::random::Random;
 pub type Change = fn(&mut Random, usize, &mut Page);
 
 /// All changes of this kind.
-pub const CHANGES: [Change; 7] =
+const CHANGES: [Change; 7] =
     [bad_format, bad_range, uneven_flow, bad_date, unlike_date, unlike_name, odd_byte];
+
+/// Makes so many of them, whichever they are, with any turn from the given one on.
+pub fn any_changes(random: &mut Random, count: usize, turn: usize, page: &mut Page) {
+    for _ in 0..count {
+        let change = random.pick(&CHANGES);
+        let turn = turn + random.below(1_000);
+        change(random, turn, page);
+    }
+}
 
 /// A line with values, drawn so that every record type has its turn.
 fn line_with_values(random: &mut Random, page: &Page) -> usize {

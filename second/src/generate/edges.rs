@@ -3,7 +3,7 @@
 
 use super::recorder::{column_limits, hour_with, readings, readings_around, report};
 use super::tight;
-use crate::figures::{Figure, Readings, FIGURES};
+use crate::figures::{Figure, Monitor, Readings, FIGURES};
 use crate::random::Random;
 use crate::report::{place, Report};
 
@@ -32,14 +32,14 @@ fn edge_readings(random: &mut Random, figure: Figure) -> Readings {
             Readings { co2: 1, ..drawn },
             Readings { co2: 1_000, fc: 30_000, ..drawn },
             Readings { fc: 5_000, ..drawn },
-            Readings { flow: 500_000, fc: 30_000, co2: random.between(1, 500), so2: 5, nox: 1 },
+            Readings { flow: 500_000, fc: 30_000, co2: random.between(1, 500), so2: Monitor(5), nox: 1 },
         ],
         Figure::So2 => [
-            Readings { so2: 0, ..drawn },
-            Readings { so2: 0, flow: 0, ..drawn },
+            Readings { so2: Monitor(0), ..drawn },
+            Readings { so2: Monitor(0), flow: 0, ..drawn },
             Readings { flow: 0, ..drawn },
-            Readings { so2: 99_999, flow: random.between(0, 60_000), ..drawn },
-            Readings { flow: 500_000, so2: random.between(0, 12_000), ..drawn },
+            Readings { so2: Monitor(99_999), flow: random.between(0, 60_000), ..drawn },
+            Readings { flow: 500_000, so2: Monitor(random.between(0, 12_000)), ..drawn },
         ],
         Figure::Nox => [
             Readings { nox: 0, ..drawn },
@@ -126,9 +126,9 @@ pub fn too_large(random: &mut Random, turn: usize) -> Report {
     let rank = random.below(count);
     let hour = &mut report.hours[rank];
     hour.readings = match turn % 3 {
-        0 => Readings { flow: 500_000, co2: 1_000, fc: 5_000, so2: 3, nox: 20 },
-        1 => Readings { flow: 500_000, so2: 99_999, co2: 20, fc: 30_000, nox: 20 },
-        _ => Readings { nox: 99_999, co2: 1, fc: 30_000, so2: 20, flow: 100 },
+        0 => Readings { flow: 500_000, co2: 1_000, fc: 5_000, so2: Monitor(3), nox: 20 },
+        1 => Readings { flow: 500_000, so2: Monitor(99_999), co2: 20, fc: 30_000, nox: 20 },
+        _ => Readings { nox: 99_999, co2: 1, fc: 30_000, so2: Monitor(20), flow: 100 },
     };
     for (number, figure) in FIGURES.iter().enumerate() {
         hour.figures[number] = figure.of_recorded(&hour.readings).min(column_limits()[number]);
@@ -213,8 +213,8 @@ pub fn without_flow(random: &mut Random, turn: usize) -> Report {
         Figure::Heat => {
             Readings { co2: random.between(100, 1_000), fc: random.between(5_000, 15_000), ..drawn }
         }
-        _ if random.once_in(3) => Readings { so2: 99_999, ..drawn },
-        _ => Readings { so2: random.between(5_000, 99_999), ..drawn },
+        _ if random.once_in(3) => Readings { so2: Monitor(99_999), ..drawn },
+        _ => Readings { so2: Monitor(random.between(5_000, 99_999)), ..drawn },
     };
     let readings = readings_around(random, &fixed, figure).unwrap_or(drawn);
     let (_, high) = figure.edges(&readings);

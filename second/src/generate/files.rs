@@ -1,6 +1,6 @@
 //! Files for the check, family by family.
 
-use super::changes::{self, CHANGES};
+use super::changes;
 use super::damage::damaged;
 use super::edges;
 use super::flows;
@@ -8,7 +8,7 @@ use super::page::Page;
 use super::recorder::{self, bytes, hour_with, readings, report, report_in};
 use super::{family_of, Family};
 use crate::calendar::{hours_in_quarter, is_leap};
-use crate::figures::{Readings, FIGURES};
+use crate::figures::{Monitor, Readings, FIGURES};
 use crate::random::Random;
 use crate::report::{Hour, Report, TOTALS};
 use crate::rounding::half_up;
@@ -161,7 +161,7 @@ fn half_total(random: &mut Random, turn: usize) -> Vec<u8> {
     let rate = 100_000 / time * (2 * random.between(0, 3) + 1) + [0, 1, 2][turn % 3] - 1;
     let so2 = random.between(20_000, 60_000);
     let flow = half_up(rate * 1_000_000, 166 * so2);
-    let fixed = Readings { so2, flow, co2: 1, fc: 30_000, nox: 5 };
+    let fixed = Readings { so2: Monitor(so2), flow, co2: 1, fc: 30_000, nox: 5 };
     let hour_of_quarter = report.hours[0].hour_of_quarter;
     report.hours = vec![hour_with(random, hour_of_quarter, fixed)];
     report.hours[0].time = time;
@@ -234,7 +234,7 @@ fn good_range(random: &mut Random, turn: usize) -> Vec<u8> {
     let count = 1 + random.below(3);
     let mut report = report(random, count);
     let rank = random.below(count);
-    let base = Readings { so2: 10, nox: 10, co2: 100, flow: 1_000, fc: 18_000 };
+    let base = Readings { so2: Monitor(10), nox: 10, co2: 100, flow: 1_000, fc: 18_000 };
     let fixed = match turn % 12 {
         0 => Readings { co2: 1, ..base },
         1 => Readings { co2: 1_000, ..base },
@@ -242,8 +242,8 @@ fn good_range(random: &mut Random, turn: usize) -> Vec<u8> {
         3 => Readings { flow: 500_000, ..base },
         4 => Readings { fc: 5_000, ..base },
         5 => Readings { fc: 30_000, ..base },
-        6 => Readings { so2: 0, nox: 0, ..base },
-        7 => Readings { so2: 99_999, ..base },
+        6 => Readings { so2: Monitor(0), nox: 0, ..base },
+        7 => Readings { so2: Monitor(99_999), ..base },
         8 => Readings { nox: 99_999, ..base },
         _ => readings(random),
     };
@@ -381,11 +381,8 @@ fn many_faults(random: &mut Random, turn: usize) -> Vec<u8> {
         }
     };
     let mut page = Page::of(&bytes(random, &report));
-    for _ in 0..1 + random.below(3) {
-        let change = random.pick(&CHANGES);
-        let turn = random.below(1_000);
-        change(random, turn, &mut page);
-    }
+    let count = 1 + random.below(3);
+    changes::any_changes(random, count, 0, &mut page);
     if random.once_in(3) {
         let turn = random.below(1_000);
         return damaged(random, turn, page);

@@ -2,7 +2,7 @@
 //! among them or behind them; and lines of written reports made idle.
 
 use super::changes::{
-    bad_text, byte_on, date_on, length_on, name_on, text_of, wrong_date, Change, CHANGES, ODD_BYTES,
+    any_changes, bad_text, byte_on, date_on, length_on, name_on, text_of, wrong_date, Change, ODD_BYTES,
 };
 use super::damage::damaged;
 use super::edges;
@@ -69,6 +69,15 @@ pub fn with_idle_hours(random: &mut Random, mut report: Report, place: usize, id
         }
     }
     report
+}
+
+/// The bytes of the report, now and then with idle hours.
+pub fn put(random: &mut Random, mut report: Report) -> Vec<u8> {
+    if random.once_in(4) {
+        let (place, idle) = (random.below(4), 1 + random.below(3));
+        report = with_idle_hours(random, report, place, idle);
+    }
+    bytes(random, &report)
 }
 
 /// An honest report with so many operating and idle hours.
@@ -530,11 +539,7 @@ fn same_line(random: &mut Random, turn: usize) -> Vec<u8> {
 /// One or two faults inside any lines.
 fn changed(random: &mut Random, turn: usize) -> Vec<u8> {
     let mut page = small_page(random);
-    for _ in 0..1 + turn % 2 {
-        let change = random.pick(&CHANGES);
-        let variant = random.below(1_000);
-        change(random, variant, &mut page);
-    }
+    any_changes(random, 1 + turn % 2, 0, &mut page);
     page.bytes()
 }
 

@@ -1,9 +1,10 @@
 //! Written reports, small ones and full quarters, and then changes to them:
 //! each change is a list of bytes to set in the report as it stands.
 
-use super::changes::{self, CHANGES};
+use super::changes::{self, any_changes};
 use super::edges::set_at_edge;
 use super::flows;
+use super::gas_hours;
 use super::idle_hours;
 use super::page::{two_below, Page};
 use super::recorder::{column_limits, honest_figures};
@@ -11,7 +12,7 @@ use super::sheets::{order, order_in, words_of};
 use super::tons::MOST_WRITTEN;
 use crate::calendar::{eight_digits, hours_in_quarter, moment_of};
 use crate::cases::Case;
-use crate::figures::{Readings, FIGURES};
+use crate::figures::{Monitor, Readings, FIGURES};
 use crate::layout::{report_length, DATE_200, HOURLY, R100, R200};
 use crate::random::Random;
 use crate::report::{Hour, PlainPen, Report, TOTALS};
@@ -38,7 +39,7 @@ const FULL: [(u32, u32); 9] =
 fn heaviest(number: usize) -> Option<Readings> {
     match number {
         // The largest heat and the largest SO2 figure.
-        5 => Some(Readings { so2: 30_000, nox: 99_999, co2: 996, flow: 200_803, fc: 20_000 }),
+        5 => Some(Readings { so2: Monitor(30_000), nox: 99_999, co2: 996, flow: 200_803, fc: 20_000 }),
         8 => Some(MOST_WRITTEN),
         _ => None,
     }
@@ -59,29 +60,36 @@ pub fn full(random: &mut Random, number: usize) -> Vec<Case> {
         cases.push(Case::Write { order: order.clone(), room: report_length(hours) - 1 });
     }
     let steps = (number * 7..number * 7 + 14).chain([ONE_MORE, UNEVEN]);
-    cases.extend(written(random, order, steps, number * 3..number * 3 + 3));
+    cases.extend(written(random, order, steps, turns(number, 3), turns(number, 2)));
     cases
 }
 
 /// About as many hours as 65,536 bytes hold, and changes.
 pub fn middle(random: &mut Random, number: usize) -> Vec<Case> {
     let order = order(random, 205 + number % 2);
-    written(random, order, number * 9..number * 9 + 10, number * 2..number * 2 + 2)
+    written(random, order, number * 9..number * 9 + 10, turns(number, 2), turns(number, 2))
 }
 
 /// A few hours, and changes.
 pub fn small(random: &mut Random, number: usize) -> Vec<Case> {
     let order = order(random, 1 + number % 9);
-    written(random, order, number * 5..number * 5 + 5, number * 2..number * 2 + 2)
+    written(random, order, number * 5..number * 5 + 5, turns(number, 2), turns(number, 3))
+}
+
+/// So many turns for the report with this number, in a row with those of the
+/// others.
+fn turns(number: usize, count: usize) -> Range<usize> {
+    number * count..(number + 1) * count
 }
 
 /// The order written, these steps of change to its report, and then turns in
-/// which lines of it are made idle.
+/// which lines of it are made idle, and turns in which hours are made gas hours.
 fn written(
     random: &mut Random,
     order: Order,
     steps: impl Iterator<Item = usize>,
     idle_turns: Range<usize>,
+    gas_turns: Range<usize>,
 ) -> Vec<Case> {
     let hours = order.words.chunks(WORDS).map(hour_of).collect();
     let report = report_of(&order, hours);
@@ -96,6 +104,11 @@ fn written(
         let rank = any_rank(random, &report);
         let page = Page::of(&report.bytes(&mut PlainPen));
         let next = idle_hours::emptied(random, turn, page, rank);
+        cases.extend(patch(&mut now, next));
+    }
+    for turn in gas_turns {
+        let rank = any_rank(random, &report);
+        let next = gas_hours::made_gas(random, turn, &report, rank);
         cases.extend(patch(&mut now, next));
     }
     cases
@@ -199,11 +212,7 @@ fn changed(random: &mut Random, step: usize, report: &Report) -> Vec<u8> {
 /// The bytes of the report after so many changes inside lines.
 fn changed_lines(random: &mut Random, turn: usize, report: &Report, count: usize) -> Vec<u8> {
     let mut page = Page::of(&report.bytes(&mut PlainPen));
-    for _ in 0..count {
-        let change = random.pick(&CHANGES);
-        let variant = turn + random.below(1_000);
-        change(random, variant, &mut page);
-    }
+    any_changes(random, count, turn, &mut page);
     page.bytes()
 }
 

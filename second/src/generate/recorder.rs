@@ -2,7 +2,7 @@
 //! then rounds, and the drawing of readings, hours, names and dates.
 
 use crate::calendar::{hours_in_quarter, is_leap};
-use crate::figures::{Figure, Formula, Readings, FIGURES};
+use crate::figures::{Figure, Formula, Monitor, Readings, FIGURES};
 use crate::layout::{plain_number, Value, R300, R310, R320, R330};
 use crate::random::Random;
 use crate::report::{Hour, Pen, PlainPen, Report};
@@ -32,7 +32,7 @@ fn unrounded(random: &mut Random, recorded: u128) -> u128 {
 /// recorded ones.
 pub fn honest_figures(random: &mut Random, recorded: &Readings) -> [u128; 4] {
     let fine = Readings {
-        so2: unrounded(random, recorded.so2),
+        so2: recorded.so2.map(|recorded| unrounded(random, recorded)),
         nox: unrounded(random, recorded.nox),
         co2: unrounded(random, recorded.co2),
         flow: unrounded(random, recorded.flow),
@@ -41,6 +41,7 @@ pub fn honest_figures(random: &mut Random, recorded: &Readings) -> [u128; 4] {
     FIGURES.map(|figure| match figure.formula(&fine) {
         Formula::Product { top, bottom, x, y } => half_up(top * x * y, bottom * PARTS * PARTS),
         Formula::Quotient { top, bottom, x, y } => half_up(top * x, bottom * y),
+        Formula::Multiple { top, bottom, x } => half_up(top * x, bottom * PARTS),
     })
 }
 
@@ -52,7 +53,7 @@ pub fn writable(readings: &Readings) -> bool {
 /// Readings of a usual stack.
 fn usual(random: &mut Random) -> Readings {
     Readings {
-        so2: random.between(0, 8_000),
+        so2: Monitor(random.between(0, 8_000)),
         nox: random.between(0, 6_000),
         co2: random.between(30, 180),
         flow: random.between(500, 60_000),
@@ -63,7 +64,7 @@ fn usual(random: &mut Random) -> Readings {
 /// Readings anywhere in their ranges, small and large ones alike.
 fn any(random: &mut Random) -> Readings {
     Readings {
-        so2: random.spread(99_999),
+        so2: Monitor(random.spread(99_999)),
         nox: random.spread(99_999),
         co2: random.spread(1_000).max(1),
         flow: random.spread(500_000),
@@ -75,7 +76,7 @@ fn any(random: &mut Random) -> Readings {
 fn extreme(random: &mut Random) -> Readings {
     let other = any(random);
     Readings {
-        so2: random.pick(&[0, 0, 1, 99_999, 99_998, other.so2]),
+        so2: random.pick(&[Monitor(0), Monitor(0), Monitor(1), Monitor(99_999), Monitor(99_998), other.so2]),
         nox: random.pick(&[0, 0, 1, 99_999, 99_998, other.nox]),
         co2: random.pick(&[1, 1, 2, 999, 1_000, 1_000, other.co2]),
         flow: random.pick(&[0, 0, 1, 2, 499_999, 500_000, other.flow]),

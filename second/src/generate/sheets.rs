@@ -5,17 +5,18 @@ use super::page::two_below;
 use super::recorder::{column_limits, name, readings, rising_hours, year_and_quarter};
 use crate::calendar::hours_in_quarter;
 use crate::cases::Case;
-use crate::figures::{Figure, Readings, FIGURES};
+use crate::figures::{Figure, Monitor, Readings, FIGURES};
 use crate::layout::{report_length, FLOW};
 use crate::random::Random;
 use crate::report::{place, Hour};
 use crate::write::{word, Order, WORDS};
 
-/// The words of an hour.
+/// The words of an hour, which is no gas hour.
 pub fn words_of(hour: &Hour) -> [u32; WORDS] {
     let r = &hour.readings;
     let first = u128::from(hour.hour_of_quarter) * 128 + hour.time;
-    let values = [first, r.so2, r.nox, r.co2, r.flow * FLOW.unit, r.fc];
+    let so2 = r.so2.reading().expect("an SO2 reading");
+    let values = [first, so2, r.nox, r.co2, r.flow * FLOW.unit, r.fc];
     [0, 1, 2, 3, 4, 5].map(|kind| word(kind, values[kind as usize] as u32))
 }
 
@@ -202,7 +203,7 @@ fn with_value(random: &mut Random, kind: u32, value: u32) -> Order {
     let count = 1 + random.below(4);
     let mut order = order(random, count);
     let rank = random.below(count);
-    let modest = Readings { so2: 10, nox: 10, co2: 100, flow: 1_000, fc: 18_000 };
+    let modest = Readings { so2: Monitor(10), nox: 10, co2: 100, flow: 1_000, fc: 18_000 };
     set_readings(&mut order, rank, modest);
     let at = WORDS * rank + kind as usize;
     order.words[at] = if kind == 0 { order.words[at] / 128 * 128 + value } else { word(kind, value) };
@@ -225,18 +226,18 @@ fn limit_readings(random: &mut Random, figure: Figure, over: bool) -> Readings {
         let mut readings = match figure {
             Figure::Heat => {
                 let fc = random.between(5_000, 20_000);
-                Readings { so2: 3, nox: 5, co2: random.between(300, 1_000), flow: 0, fc }
+                Readings { so2: Monitor(3), nox: 5, co2: random.between(300, 1_000), flow: 0, fc }
             }
             Figure::So2 => {
-                let so2 = random.between(20_000, 99_999);
+                let so2 = Monitor(random.between(20_000, 99_999));
                 Readings { so2, nox: 5, co2: 10, flow: 0, fc: 30_000 }
             }
             Figure::Nox => {
                 let fc = random.between(5_000, 30_000);
-                Readings { so2: 3, nox: 0, co2: random.between(1, 100), flow: 1, fc }
+                Readings { so2: Monitor(3), nox: 0, co2: random.between(1, 100), flow: 1, fc }
             }
             // CO2 100.0 would make heat too large here.
-            Figure::Co2 => return Readings { so2: 3, nox: 5, co2: 599, flow: 500_000, fc: 30_000 },
+            Figure::Co2 => return Readings { so2: Monitor(3), nox: 5, co2: 599, flow: 500_000, fc: 30_000 },
         };
         let set = |readings: &mut Readings, value: u128| match figure {
             Figure::Nox => readings.nox = value,

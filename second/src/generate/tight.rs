@@ -6,7 +6,7 @@
 //! looked for, K from the figure, both odd, and a and b from the formula and
 //! the other readings. We look for `a * N = b * K + d` with the least d.
 
-use crate::figures::{Figure, Formula, Readings};
+use crate::figures::{Figure, Formula, Monitor, Readings};
 use crate::random::Random;
 use crate::rounding::span;
 
@@ -64,6 +64,8 @@ pub fn meets(figure: Figure, readings: &Readings, wanted: u128, upper: bool) -> 
         (Formula::Quotient { top, bottom, x, y }, false) => {
             2 * top * span(x).low == wanted.high * bottom * span(y).high
         }
+        (Formula::Multiple { top, bottom, x }, true) => top * span(x).high == wanted.low * bottom,
+        (Formula::Multiple { top, bottom, x }, false) => top * span(x).low == wanted.high * bottom,
     }
 }
 
@@ -112,7 +114,7 @@ pub fn find(random: &mut Random, figure: Figure, turn: usize) -> Option<(Reading
     }
     let found = match figure {
         Figure::Nox => Readings { nox: reading, co2, fc, ..Readings::default() },
-        _ => Readings { so2, co2, fc, flow: reading, ..Readings::default() },
+        _ => Readings { so2: Monitor(so2), co2, fc, flow: reading, ..Readings::default() },
     };
     Some((found, wanted))
 }

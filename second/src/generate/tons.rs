@@ -5,14 +5,14 @@
 
 use super::changes::bad_text;
 use super::edges::set_at_edge;
-use super::idle_hours::with_idle_hours;
+use super::idle_hours::{put, with_idle_hours};
 use super::page::Page;
 use super::recorder::{bytes, name, report, rising_hours, year_and_quarter};
 use super::sheets::words_of;
 use super::tight::euclid;
 use super::{family_of, Family};
 use crate::cases::Case;
-use crate::figures::{Figure, Readings, FIGURES};
+use crate::figures::{Figure, Monitor, Readings, FIGURES};
 use crate::layout::{report_length, Value, HEAT, R301};
 use crate::random::Random;
 use crate::report::{nox_mass, Hour, Report, NOX_TENTH};
@@ -31,11 +31,14 @@ const COLUMNS: &Value = &R301.values[TONS];
 const OLD_LENGTH: usize = COLUMNS.columns.0 - 1;
 
 /// The readings of the written hour with the most NOx.
-pub const MOST_WRITTEN: Readings = Readings { so2: 12_048, nox: 99_999, co2: 153, flow: 500_000, fc: 7_652 };
+pub const MOST_WRITTEN: Readings =
+    Readings { so2: Monitor(12_048), nox: 99_999, co2: 153, flow: 500_000, fc: 7_652 };
 
 /// The readings and figures of the hour with the most NOx that passes.
-pub const MOST_PASSING: (Readings, [u128; 4]) =
-    (Readings { so2: 10, nox: 99_999, co2: 7, flow: 500_000, fc: 5_116 }, [73_300, 830, 93_977, 1_995]);
+pub const MOST_PASSING: (Readings, [u128; 4]) = (
+    Readings { so2: Monitor(10), nox: 99_999, co2: 7, flow: 500_000, fc: 5_116 },
+    [73_300, 830, 93_977, 1_995],
+);
 
 /// The families and their shares.
 const FAMILIES: [(Family<Vec<u8>>, usize); 9] = [
@@ -54,15 +57,6 @@ const FAMILIES: [(Family<Vec<u8>>, usize); 9] = [
 pub fn file(random: &mut Random, number: usize) -> Vec<u8> {
     let (family, turn) = family_of(&FAMILIES, number);
     family(random, turn)
-}
-
-/// The bytes of the report, now and then with idle hours.
-fn put(random: &mut Random, mut report: Report) -> Vec<u8> {
-    if random.once_in(4) {
-        let (place, idle) = (random.below(4), 1 + random.below(3));
-        report = with_idle_hours(random, report, place, idle);
-    }
-    bytes(random, &report)
 }
 
 /// An honest report with so many hours, and with NOx tons if there are any.
@@ -176,7 +170,7 @@ fn time_rate_and_heat(random: &mut Random, wanted: u128) -> (u128, u128, u128) {
 fn hour_of(random: &mut Random, time: u128, rate: u128, heat: u128) -> Option<Hour> {
     let (co2, fc) = (random.between(1, 200), random.between(5_000, 30_000));
     let readings = Readings {
-        so2: random.between(0, 5_000),
+        so2: Monitor(random.between(0, 5_000)),
         nox: half_up(rate * 1_000_000 * co2, 1_194 * fc),
         co2,
         flow: half_up(heat * fc, 100 * co2),

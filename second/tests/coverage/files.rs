@@ -3,7 +3,7 @@
 
 use second::cases::Case;
 use second::check::{check, Answer, Fault};
-use second::figures::Readings;
+use second::figures::{Gas, Monitor, Readings};
 use second::generate::cases;
 use second::layout::*;
 use std::collections::BTreeMap;
@@ -73,12 +73,14 @@ pub fn hours_of(file: &[u8]) -> Vec<(u128, Readings, [u128; 4])> {
     let lines = lines_of(file);
     let ranked: Vec<Vec<usize>> = (0..HOURLY.len()).map(|block| operating_lines(&lines, block)).collect();
     let hour = |rank: usize| {
-        let number = |block: usize, index: usize| {
+        let entry = |block: usize, index: usize| {
             let value = &HOURLY[block].values[index];
             let text = value.columns.of(lines[ranked[block][rank]]);
-            read_number(text, value.decimals).and_then(|number| value.recorded(number)).unwrap()
+            read_number(text, value.decimals).and_then(|number| value.recorded(number))
         };
-        let [so2, nox, co2, flow] = [0, 1, 2, 3].map(|block| number(block, 0));
+        let number = |block, index| entry(block, index).unwrap();
+        let so2 = entry(0, 0).map_or(Gas(number(4, 1)), Monitor);
+        let [nox, co2, flow] = [1, 2, 3].map(|block| number(block, 0));
         let readings = Readings { so2, nox, co2, flow, fc: number(6, 0) };
         (number(4, 0), readings, [number(4, 1), number(5, 0), number(6, 1), number(7, 0)])
     };

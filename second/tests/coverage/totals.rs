@@ -63,7 +63,7 @@ fn wrong_totals(file: &[u8]) -> Vec<u32> {
 fn the_first_total_that_differs() {
     let mut pairs = BTreeMap::<(u32, u32), usize>::new();
     for (file, number, _) in files().filter(|&(_, number, _)| number == 0 || number > 10) {
-        if [43, 47].contains(&number) {
+        if [43, 47, 49].contains(&number) {
             continue;
         }
         let wrong = wrong_totals(file);

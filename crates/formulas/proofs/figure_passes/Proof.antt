@@ -1,16 +1,9 @@
 -- The verdict is the test's, and the test is exact.
 use mathlib.Core.Path.{_≡_, ap, sym, _∙_}
-use mathlib.Core.Bool.{Bool}
-use Prim.Native.Nat.{ℕ, _≤_}
-use Rattle.formulas.proofs.Equations.{room-of, figure-most}
-use Rattle.exact.specs.Rounding.{span}
-use Rattle.formulas.specs.Hour.{unitOf, figureOf, HourWithin}
-use Rattle.formulas.specs.Formulas.{equationOf, equationMeets, passesTest, Judges}
+use mathlib.Core.Bool.{Bool, true, false, cond}
+use Rattle.formulas.specs.Hour.{HourWithin}
+use Rattle.formulas.specs.Formulas.{readingsMeet, gasMeets, byHeat, passesTest, Judges}
 use Rattle.formulas.specs.FormulaLaws.{test-exact}
-use Rattle.formulas.specs.Reduced.{Reduces, formulaMeets}
-use Rattle.formulas.specs.ReducedLaws.{reduced-meets}
-use Rattle.formulas.specs.declared.Form.{Form}
-use Rattle.formulas.specs.declared.Formula.{Formula}
 use Rattle.formulas.specs.declared.hour.Hour.{Hour}
 use Rattle.formulas.specs.declared.hour.Quantity.{Quantity}
 use borrow.Author.Needs.{needs}
@@ -18,73 +11,41 @@ use Rattle.formulas.proofs.figure_passes.Statement.{statement}
 use Rattle.formulas.proofs.figure_passes.Tie as tie
 
 -- the places of the code, each from the next one below it
-abbrev start : tie.After-figure-of → tie.Start
-start c = c .before .before
+abbrev start : tie.After-by-heat → tie.Start
+start c = c .before
 
--- a figure as the definitions have it lies in its columns
-figure-fits : (c : tie.After-figure-of) → c .figure-of .result ≤ 999_999
-figure-fits c =
-    let s = start c in
-    rw (c .figure-of .ensures) (figure-most (s .args .q) (s .args .h .figures) (s .pre .figures))
-
-formed : (q : Quantity) (h : Hour) (f : Formula) (k : Form) (v : ℕ) → Reduces f (equationOf q (h .readings)) (unitOf q) → f .form ≡ k →
-    v ≡ figureOf q (h .figures) → formulaMeets k f v ≡ passesTest q h
+-- which test a figure is put to
+tested : (q : Quantity) (h : Hour) (b : Bool) → b ≡ byHeat q h → passesTest q h ≡ cond b (gasMeets (h .figures)) (readingsMeet q h)
 unfolding passesTest
-formed q h f k v r e g =
-    ap (λ (n : Form). formulaMeets n f v) (sym e ∙ r .form)
-    ∙ reduced-meets f (equationOf q (h .readings)) (unitOf q) r v
-    ∙ ap (λ (n : ℕ). equationMeets (equationOf q (h .readings)) (span (unitOf q) n)) g
+tested q h b e = ap (λ (x : Bool). cond x (gasMeets (h .figures)) (readingsMeet q h)) (sym e)
 
 judges : (q : Quantity) (h : Hour) {verdict : Bool} → HourWithin h → verdict ≡ passesTest q h → Judges q h verdict
 judges q h w e = record { test = e; exact = rw e (test-exact q h (w .readings)) }
 
-formula-of-requires : tie.Need-formula-of-requires
-formula-of-requires c κs = search needs
+by-heat-requires : tie.Need-by-heat-requires
+by-heat-requires c κs = search needs
 
-figure-of-requires : tie.Need-figure-of-requires
-figure-of-requires c κs = search needs
-
-enum-told : tie.Need-enum-told
-enum-told c = search needs
-
-product-meets-requires : tie.Need-product-meets-requires
-product-meets-requires c κs =
-    let g = c .before .before in
-    (room-of _ (g .before .formula-of .ensures .1) (c .enum-told .given .1), figure-fits g)
-
-enum-told-2 : tie.Need-enum-told-2
-enum-told-2 c = search needs
-
-quotient-meets-requires : tie.Need-quotient-meets-requires
-quotient-meets-requires c κs =
-    let g = c .before .before in
-    (room-of _ (g .before .formula-of .ensures .1) (c .enum-told2 .given .1), figure-fits g)
+gas-passes-requires : tie.Need-gas-passes-requires
+gas-passes-requires c κs = search needs
 
 returns : tie.Need-returns
 returns c =
-    let g = c .before .before .before in
-    let s = start g in
+    let a = c .before .before in
+    let s = start a in
     judges (s .args .q) (s .args .h) (s .pre)
-    (c .product-meets .ensures
-    ∙ formed (s .args .q) (s .args .h) _ _ _ (g .before .formula-of .ensures .0) (c .before .enum-told .given .1) (g .figure-of .ensures))
+    (c .gas-passes .ensures ∙ sym (tested (s .args .q) (s .args .h) true (sym (c .before .if1 .taken) ∙ a .by-heat .ensures)))
+
+equation-passes-requires : tie.Need-equation-passes-requires
+equation-passes-requires c κs = search needs
 
 returns-2 : tie.Need-returns-2
 returns-2 c =
-    let g = c .before .before .before in
-    let s = start g in
+    let a = c .before .before in
+    let s = start a in
     judges (s .args .q) (s .args .h) (s .pre)
-    (c .quotient-meets .ensures
-    ∙ formed (s .args .q) (s .args .h) _ _ _ (g .before .formula-of .ensures .0) (c .before .enum-told2 .given .1) (g .figure-of .ensures))
+    (c .equation-passes .ensures ∙ sym (tested (s .args .q) (s .args .h) false (sym (c .before .if1 .left) ∙ a .by-heat .ensures)))
 
 pub figure-passes-spec : {M : Type 1} → statement M
 figure-passes-spec =
     tie.close
-    (tie.spec
-    formula-of-requires
-    figure-of-requires
-    enum-told
-    product-meets-requires
-    enum-told-2
-    quotient-meets-requires
-    returns
-    returns-2)
+    (tie.spec by-heat-requires gas-passes-requires returns equation-passes-requires returns-2)

@@ -5,11 +5,11 @@ use Prim.Native.Nat.{ℕ}
 use native.Mathlib.Omega.{arith}
 use lib.ListN.{length, take}
 use borrow.Author.Needs.{needs}
-use Rattle.layout.specs.Layout.{lengthOf, valuesOf}
+use Rattle.layout.specs.Layout.{lengthOf, so2Ppm}
 use Rattle.layout.specs.declared.RecordType.the-variants.{So2Concentration}
 use Rattle.exact.specs.Faults.{or-next}
 use Rattle.lines.specs.Lines.{firstLine}
-use Rattle.lines.specs.LineFaults.{shapeFault, valuesFault, hourIn, datedFault, hourFault}
+use Rattle.lines.specs.LineFaults.{shapeFault, fieldIn, hourIn, datedFault, so2Fault, hourFault}
 use Rattle.lines.specs.FaultLaws.{dated-shape}
 use Rattle.lines.specs.declared.Period.{Period}
 use Rattle.lines.specs.declared.HourLine.the-variants.{At as OfHour}
@@ -26,7 +26,7 @@ start c = c .before .before .before
 abbrev dated : tie.After-known-told → tie.After-dated-line
 dated c = c .before .before .before
 
-abbrev hourly : tie.After-values-fault → tie.After-known-told
+abbrev hourly : tie.After-so2-fault → tie.After-known-told
 hourly c = c .before .before
 
 abbrev faulty : tie.After-known-told2 → tie.After-dated-line
@@ -62,12 +62,12 @@ module _ (c : tie.After-known-told) where
   long = line-length So2Concentration rest fine (lengthOf So2Concentration) refl
 
 -- the fault of the value is the line's
-last : (c : tie.After-values-fault) → let k = hourly c in c .values-fault .result ≡ hourFault (facility k) (period k) (from k) (firstLine (rest k))
+last : (c : tie.After-so2-fault) → let k = hourly c in c .so2-fault .result ≡ hourFault (facility k) (period k) (from k) (firstLine (rest k))
 unfolding hourFault
 last c =
     let k = hourly c in
-    c .values-fault .ensures
-    ∙ ap (valuesFault (valuesOf So2Concentration)) (sym (line-known So2Concentration (rest k) (fine k) (lengthOf So2Concentration) refl))
+    c .so2-fault .ensures
+    ∙ ap (λ (l : List ℕ). so2Fault (fieldIn so2Ppm l)) (sym (line-known So2Concentration (rest k) (fine k) (lengthOf So2Concentration) refl))
     ∙ sym (or-next _ _ (said k .0))
 
 dated-line-requires : tie.Need-dated-line-requires
@@ -76,11 +76,11 @@ dated-line-requires c κs = search needs
 enum-known-dated : tie.Need-enum-known-dated
 enum-known-dated c = search needs
 
-slice-aggregate-values-fault : tie.Need-slice-aggregate-values-fault
-slice-aggregate-values-fault c = sym (long (c .before))
+slice-aggregate-so2-fault : tie.Need-slice-aggregate-so2-fault
+slice-aggregate-so2-fault c = sym (long (c .before))
 
-values-fault-requires : tie.Need-values-fault-requires
-values-fault-requires c κs = long (c .before)
+so2-fault-requires : tie.Need-so2-fault-requires
+so2-fault-requires c κs = long (c .before)
 
 returns : tie.Need-returns
 returns c = hour-faulty _ _ _ _ _ (last (c .before)) (λ e. omega arith)
@@ -107,8 +107,8 @@ hour-line-spec =
     (tie.spec
     dated-line-requires
     enum-known-dated
-    slice-aggregate-values-fault
-    values-fault-requires
+    slice-aggregate-so2-fault
+    so2-fault-requires
     returns
     enum-known-dated-2
     returns-2

@@ -1,14 +1,14 @@
 -- The values of one operating hour, each where the layout has it.
 use Prim.Native.Nat.{ℕ}
-use mathlib.Core.Path.{_≡_, refl, ap, _∙_}
+use mathlib.Core.Path.{_≡_, refl, sym, ap, _∙_}
 use Rattle.columns.specs.Number.{numberOf}
 use Rattle.layout.specs.Layout.{recordOf, valueAt, thousandsOf}
 use Rattle.layout.specs.declared.RecordType.{RecordType}
 use Rattle.layout.specs.declared.RecordType.the-variants.{So2Concentration, NoxConcentration, Co2Concentration, VolumetricFlow, Operation}
 use Rattle.layout.specs.declared.RecordType.the-variants.{So2Mass, NoxRate, Co2Mass}
 use Rattle.layout.specs.declared.Run.the-variants.{Hourly}
-use Rattle.lines.specs.LineFaults.{fieldIn}
-use Rattle.reading.specs.Recorded.{valueOn, hourAt}
+use Rattle.lines.specs.LineFaults.{fieldIn, hasGas}
+use Rattle.reading.specs.Recorded.{Line, recordAt, valueOn, hourAt}
 use Rattle.reading.specs.Places.{lineAt}
 use Rattle.reading.specs.RankLaws.{value-stands, hour-stands}
 use Rattle.recorded.specs.declared.ListedHour.{ListedHour}
@@ -21,14 +21,23 @@ listed : (c : tie.Start) (i : ℕ) → let x = c .args in
     numberOf (fieldIn (valueAt Operation i) (lineAt (x .file .now) (x .s) Operation (x .at .place) .text)) ≡ valueOn (x .file .now) Operation (x .k) i
 listed c i = let x = c .args in value-stands (x .file .now) (x .s) Operation (x .k) (x .at .place) (c .pre .2) i
 
+own-text : (c : tie.Start) (t : RecordType) → recordOf t .run ≡ Hourly → let x = c .args in
+    lineAt (x .file .now) (x .s) t (x .k) .text ≡ recordAt (x .file .now) t (x .k) .text
+own-text c t e =
+    let x = c .args in
+    sym (ap (λ (l : Line). l .text) (hour-stands (x .file .now) (x .s) (c .pre .0) t e (x .k) (c .pre .1) .there))
+
 ranked : (c : tie.Start) (t : RecordType) → recordOf t .run ≡ Hourly → (i : ℕ) → let x = c .args in
     numberOf (fieldIn (valueAt t i) (lineAt (x .file .now) (x .s) t (x .k) .text)) ≡ valueOn (x .file .now) t (x .k) i
 ranked c t e i =
     let x = c .args in
     value-stands (x .file .now) (x .s) t (x .k) (x .k) (hour-stands (x .file .now) (x .s) (c .pre .0) t e (x .k) (c .pre .1)) i
 
-abbrev start : tie.After-value-in → tie.Start
+abbrev start : tie.After-gas-in → tie.Start
 start c = c .before .before
+
+gas-in-requires : tie.Need-gas-in-requires
+gas-in-requires c κs = search needs
 
 value-in-requires : tie.Need-value-in-requires
 value-in-requires c κs = search needs
@@ -72,9 +81,11 @@ returns c =
     let co2 = flow .before in
     let nox = co2 .before in
     let so2 = nox .before in
-    let x = start so2 in
+    let gas = so2 .before in
+    let x = start gas in
     λ i. record {
       time = (ap (λ (at : ListedHour). at .time) (x .pre .3) ∙ listed x 0) i;
+      gas = (gas .gas-in .ensures ∙ ap hasGas (own-text x So2Mass refl)) i;
       readings = record {
         so2 = (so2 .value-in .ensures ∙ ranked x So2Concentration refl 0) i;
         nox = (nox .value-in2 .ensures ∙ ranked x NoxConcentration refl 0) i;
@@ -94,6 +105,7 @@ pub hour-spec : {M : Type 1} → statement M
 hour-spec =
     tie.close
     (tie.spec
+    gas-in-requires
     value-in-requires
     value-in-requires-2
     value-in-requires-3
