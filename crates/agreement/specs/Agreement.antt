@@ -6,7 +6,10 @@ use mathlib.Core.List.{List, [], _∷_, map}
 use native.Mathlib.Omega.{arith}
 use lib.ListN.{length, take, drop}
 use lib.Seq.{take-at}
+use Rattle.columns.specs.Columns.{columns}
 use Rattle.layout.specs.Layout.{stackWidth, reportLength}
+use Rattle.layout.specs.declared.RecordType.the-variants.{So2Concentration}
+use Rattle.stamp.specs.Stamp.{stampOf}
 use Rattle.formulas.specs.Hour.{Unrounded, setOf, asRecorded}
 use Rattle.formulas.specs.FormulaLaws.{written-behind}
 use Rattle.formulas.specs.declared.hour.Hour.{Hour}
@@ -14,9 +17,10 @@ use Rattle.totals.specs.Totals.{quarterTotals}
 use Rattle.totals.specs.TotalLaws.{quarter-hours}
 use Rattle.lines.specs.Lines.{lines}
 use Rattle.reading.specs.Idle.{withoutIdle}
-use Rattle.checker.specs.Checked.{acceptance, numbersOf, checked}
+use Rattle.reading.specs.Recorded.{Line, recordsOf, hourCount, hoursOf}
+use Rattle.checker.specs.Checked.{acceptance, answerNumbers, checked}
 use Rattle.checker.specs.Promise.{SetsBehind, HonestlyRounded}
-use Rattle.checker.specs.PromiseLaws.{honest-checked}
+use Rattle.checker.specs.PromiseLaws.{hours-count, honest-checked}
 use Rattle.checker.specs.declared.Answer.the-variants.{Accepted}
 use Rattle.sheet.specs.Sheet.{recordedReadings, sheetHourCount, shapeOf, sheetHours}
 use Rattle.sheet.specs.declared.SheetHour.{SheetHour}
@@ -24,12 +28,12 @@ use Rattle.writer.specs.Recorded.{ReportHour, recordedHour, recordedHours, repo
 use Rattle.writer.specs.Refusals.{refusalOf}
 use Rattle.writer.specs.Written.{writtenNumber, shortestReport, report, answered, buffered}
 use Rattle.writer.specs.TableLaws.{not-refused, number-tells}
-use Rattle.writer.specs.ReportLaws.{report-hours-count, report-shape, written-length}
+use Rattle.writer.specs.ReportLaws.{report-hours-count, report-shape, report-bytes}
 use Rattle.writer.specs.declared.Written.the-variants.{Length, Refused}
-use Rattle.agreement.specs.Reportable.{Reportable}
+use Rattle.agreement.specs.Reportable.{Reportable, formed}
 use Rattle.agreement.specs.ReportableLaws.{reportable-few, writable-reportable}
-use Rattle.agreement.specs.ReportLaws.{recorded-length, formed, own, report-clean}
-use Rattle.agreement.specs.ReadBackLaws.{lists-none, hours-back, totals-back}
+use Rattle.agreement.specs.ReportLaws.{recorded-length, own, report-right}
+use Rattle.agreement.specs.ReadBackLaws.{lists-none, dates-back, hours-back, totals-back}
 
 module _ (year quarter : ℕ) (name : List ℕ) (hs : List ReportHour) (r : Reportable year quarter name hs) where
   pub report-honest : (sets : List Unrounded) → SetsBehind (recordedHours hs) sets → HonestlyRounded (report year quarter name hs) sets
@@ -40,7 +44,7 @@ module _ (year quarter : ℕ) (name : List ℕ) (hs : List ReportHour) (r : Repo
       let h = hours-back year quarter name g n hs (r .hours) (r .monitored) in
       record {
         report = own year quarter name g n hs (r .hours) (r .rises) few;
-        clean = report-clean year quarter name g n hs (r .hours) (r .rises) few;
+        right = report-right year quarter name g n hs (r .hours) (r .rises) few;
         behind = rw h behind;
         totals = totals-back year quarter name g n hs (r .hours) few ∙ ap quarterTotals (sym h);
       }
@@ -77,23 +81,48 @@ module _ (year quarter : ℕ) (name sheet : List ℕ) (named : length name ≡ s
       go zero z v =
           let l : reportLength (shapeOf sheet) ≡ n = cc in
           let file = report year quarter name hours in
-          let k : length file ≡ n = written-length year quarter name hours named (shapeOf sheet) (report-shape sheet) ∙ l in (
+          let k : length file ≡ n = report-bytes year quarter name hours named (shapeOf sheet) (report-shape sheet) ∙ l in (
             rw (z, buffered) (take-at file (drop (reportLength (shapeOf sheet)) buffer) n k),
             writable-reportable year quarter name sheet named (not-refused year quarter name sheet (length buffer) z .0),
           )
       go (suc f) z v = absurd (let y : _≡_ {A = ℕ} 0 1 = cc in omega arith)
 
-  -- Whatever the buffer: where the writer answers a length, and no refusal, the check accepts that many bytes of it, with the sheet's hours, and
-  -- none of their lines is idle.
+  -- a file with the sheet's hours: it is accepted with the totals of what the sheet records; its 200 lines have the dates of the sheet's hours,
+  -- and all that is recorded of them is time and readings of the sheet and the rounded figures; none of its lines is idle
+  pub record HasHours (file : List ℕ) : Type 0 where
+    pub accepted : answerNumbers (checked file) ≡ acceptance (quarterTotals (map recordedHour (sheetHours sheet)))
+    pub count : hourCount file ≡ sheetHourCount sheet
+    pub dates : map (λ (l : Line). columns 16 8 (l .text)) (recordsOf file So2Concentration)
+        ≡ map (λ (h : SheetHour). stampOf year quarter (h .hour)) (sheetHours sheet)
+    pub recorded : hoursOf file ≡ map recordedHour (sheetHours sheet)
+    pub busy : withoutIdle (lines file) ≡ lines file
+
+  report-has : Reportable year quarter name hours → HasHours (report year quarter name hours)
+  report-has r =
+      let a = report-accepted year quarter name hours r (recordedSets (sheetHours sheet)) (recorded-sets-behind (sheetHours sheet)) in
+      let back = hours-back year quarter name (r .heading) (r .named) hours (r .hours) (r .monitored) in
+      let own = own-hours (sheetHours sheet) in
+      record {
+        accepted = ap answerNumbers a ∙ ap (λ (hs : List Hour). acceptance (quarterTotals hs)) own;
+        count = sym (hours-count (report year quarter name hours)) ∙ ap length back ∙ recorded-length hours ∙ report-hours-count sheet;
+        dates = dates-back year quarter name (r .heading) (r .named) hours (r .hours) ∙ own-dates (sheetHours sheet);
+        recorded = back ∙ own;
+        busy = lists-none year quarter name (r .heading) (r .named) hours (r .hours);
+      }
+    where
+      own-hours : (hs : List SheetHour) → recordedHours (reportHours hs) ≡ map recordedHour hs
+      own-hours [] = refl
+      own-hours (h ∷ hs) = ap (λ (x : List Hour). recordedHour h ∷ x) (own-hours hs)
+
+      own-dates : (hs : List SheetHour) →
+          map (λ (h : ReportHour). stampOf year quarter (h .hour)) (reportHours hs) ≡ map (λ (h : SheetHour). stampOf year quarter (h .hour)) hs
+      own-dates [] = refl
+      own-dates (h ∷ hs) = ap (λ (x : List (List ℕ)). stampOf year quarter (h .hour) ∷ x) (own-dates hs)
+
+  -- Whatever the buffer: where the writer answers a length, and no refusal, the check accepts that many bytes of it, with the sheet's hours.
   pub every-written : (buffer : List ℕ) (n : ℕ) → writtenNumber (answered year quarter name sheet (length buffer)) ≡ n → shortestReport ≤ n →
-      let file = take n (buffered year quarter name sheet buffer) in
-      (numbersOf (checked file) ≡ acceptance (formed hours)) × (formed hours .hours ≡ sheetHourCount sheet) × (withoutIdle (lines file) ≡ lines file)
+      HasHours (take n (buffered year quarter name sheet buffer))
   every-written buffer n e h =
       let told = number-tells year quarter name sheet (length buffer) (omega (arith, e)) in
       let w = written-report buffer n (told ∙ ap Length (ap writtenNumber (sym told) ∙ e)) in
-      let r = w .1 in
-      let a = report-accepted year quarter name hours r (recordedSets (sheetHours sheet)) (recorded-sets-behind (sheetHours sheet)) in (
-        ap numbersOf (ap checked (w .0) ∙ a),
-        formed-hours,
-        subst (λ (file : List ℕ). withoutIdle (lines file) ≡ lines file) (sym (w .0)) (lists-none year quarter name (r .heading) (r .named) hours (r .hours)),
-      )
+      subst HasHours (sym (w .0)) (report-has (w .1))

@@ -18,8 +18,8 @@ use Rattle.columns.specs.Rewritten.{DigitsWritten}
 use Rattle.columns.specs.RewrittenLaws.{digits-written}
 use Rattle.calendar.specs.Calendar.{hoursInQuarter}
 use Rattle.calendar.specs.declared.QuarterHour.the-variants.{At}
-use Rattle.layout.specs.Layout.{recordOf, lengthOf, stackWidth, dateColumn, dateWidth, yearDigits, quarterDigit, so2Ppm, so2Rate, gasStart, gasWord, valuesOf}
-use Rattle.layout.specs.Layout.{Within}
+use Rattle.layout.specs.Layout.{recordOf, lengthOf, stackWidth, dateColumn, dateWidth, gasStart, gasWord, valuesOf}
+use Rattle.layout.specs.Values.{yearDigits, quarterDigit, so2Ppm, so2Rate, Within}
 use Rattle.layout.specs.LayoutLaws.{date-inside, true-within}
 use Rattle.layout.specs.TypeLaws.{gas-type}
 use Rattle.stamp.specs.Stamp.{stampOf}
@@ -35,7 +35,7 @@ use Rattle.lines.specs.declared.Period.{Period}
 use Rattle.lines.specs.declared.FacilityLine.the-variants.{Of}
 use Rattle.lines.specs.declared.HourLine.the-variants.{At as OfHour}
 use Rattle.lines.specs.declared.operation.OperationLine.the-variants.{Operating}
-use Rattle.sheet.specs.TestLaws.{Heading}
+use Rattle.sheet.specs.SheetTests.{Heading}
 use Rattle.writer.specs.Recorded.{ReportHour}
 use Rattle.records.specs.Records.{headed, facilityRecord, hourValues, totalValues, totalsRecord, valued}
 use Rattle.writer.specs.Written.{hourRecord}
@@ -97,7 +97,7 @@ module _ (year quarter : ℕ) (name : List ℕ) (g : Heading year quarter name) 
   facility-right : facilityFault facility ≡ 0
   unfolding facilityFault
   facility-right =
-      let q : Within quarterDigit quarter = record { least = g .isQuarter .least; most = g .isQuarter .most; whole = omega arith } in
+      let q : Within quarterDigit quarter = record { least = g .isQuarter .least; most = g .isQuarter .most; steps = omega arith } in
       rw (
         framed-shape Facility name facility facility-framed (facility-printable name (g .printable) year quarter),
         facility-framed .stack,

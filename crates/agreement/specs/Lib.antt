@@ -7,3 +7,4 @@ pub mod ReadBackLaws
 pub mod Agreement
 pub mod Recorder
 pub mod Examples
+pub mod TwoHours

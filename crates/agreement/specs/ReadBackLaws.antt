@@ -11,8 +11,11 @@ use Rattle.calendar.specs.Calendar.{mostHours}
 use lib.Dec.{lit≤}
 use Rattle.exact.specs.Logic.{All, ranked, all-at, mapped-at}
 use Rattle.exact.specs.Sums.{totalOf}
+use Rattle.columns.specs.Columns.{columns}
 use Rattle.columns.specs.Number.{numberOf}
-use Rattle.layout.specs.Layout.{dateColumn, stackWidth, valueCount, valueAt, thousandsOf, order, earlier, countOf, bytesOf, shape}
+use Rattle.stamp.specs.Stamp.{stampOf}
+use Rattle.layout.specs.Layout.{dateColumn, stackWidth, valueCount, valueAt, order, earlier, countOf, bytesOf, shape}
+use Rattle.layout.specs.Values.{thousandsOf}
 use Rattle.layout.specs.declared.RecordType.{RecordType}
 use Rattle.layout.specs.declared.RecordType.the-variants.{So2Concentration, NoxConcentration, Co2Concentration, VolumetricFlow, Operation}
 use Rattle.layout.specs.declared.RecordType.the-variants.{QuarterTotals, So2Mass, NoxRate, Co2Mass}
@@ -23,20 +26,20 @@ use Rattle.lines.specs.LineFaults.{typeIs, fieldIn, operates, hasGas}
 use Rattle.reading.specs.Idle.{withoutIdle}
 use Rattle.reading.specs.IdleLaws.{kept-line}
 use Rattle.reading.specs.RecordedLaws.{operation-idle, typed-idle}
-use Rattle.reading.specs.Recorded.{idle, linesWith, recordsOf, valueOn, hourCount, hourAt, hoursOf, totalsIn, recordAt}
+use Rattle.reading.specs.Recorded.{Line, idle, linesWith, recordsOf, valueOn, hourCount, hourAt, hoursOf, totalsIn, recordAt}
 use Rattle.reading.specs.Places.{numbered, having}
 use Rattle.reading.specs.RecordLaws.{either-type, other-records, operating-records}
 use Rattle.reading.specs.RunLaws.{LineRun, Typed, joined, runsFrom, order-chosen, numbered-length, numbered-at, having-all}
-use Rattle.sheet.specs.TestLaws.{Heading}
+use Rattle.sheet.specs.SheetTests.{Heading}
 use Rattle.writer.specs.Recorded.{ReportHour, recordedHours}
 use Rattle.records.specs.Records.{headed, hourValues, totalValues, totalsRecord}
 use Rattle.writer.specs.Writable.{HourWritable}
 use Rattle.writer.specs.Written.{hourRecord, writtenRecords, report}
 use Rattle.writer.specs.ReportLaws.{hour-records, records-count}
-use Rattle.agreement.specs.Reportable.{AllWritable, AllMonitored}
+use Rattle.agreement.specs.Reportable.{AllWritable, AllMonitored, formed}
 use Rattle.agreement.specs.RecordLaws.{framed-headed, value-back}
-use Rattle.agreement.specs.HourRecordLaws.{stamped, stamped-framed, hour-operates, no-gas}
-use Rattle.agreement.specs.ReportLaws.{hour-values-within, recorded-length, formed, totals-within, recordsIn, report-lines, records-typed}
+use Rattle.agreement.specs.HourRecordLaws.{stamped, stamped-framed, hour-date, hour-operates, no-gas}
+use Rattle.agreement.specs.ReportLaws.{hour-values-within, recorded-length, totals-within, recordsIn, report-lines, records-typed}
 
 abbrev noHour : ReportHour
 noHour = record {
@@ -185,6 +188,17 @@ module _ (year quarter : ℕ) (name : List ℕ) (g : Heading year quarter name) 
             co2 = value Co2Mass (lit≤ tt) 0 h (omega arith) j;
           };
         }
+
+    -- the 200 lines have the dates of its hours
+    dates-from : (xs : List ReportHour) (number : ℕ) →
+        map (λ (l : Line). columns 16 8 (l .text)) (numbered number (map (hourRecord year quarter name So2Concentration) xs))
+        ≡ map (λ (h : ReportHour). stampOf year quarter (h .hour)) xs
+    unfolding numbered
+    dates-from [] number = refl
+    dates-from (x ∷ xs) number = ap₂ _∷_ (hour-date year quarter name g named So2Concentration (lit≤ tt) x) (dates-from xs (suc number))
+
+    pub dates-back : map (λ (l : Line). columns 16 8 (l .text)) (recordsOf file So2Concentration) ≡ map (λ (h : ReportHour). stampOf year quarter (h .hour)) hs
+    dates-back = rw (records-back So2Concentration a, hour-records year quarter name hs So2Concentration (lit≤ tt)) (dates-from hs _)
 
     count-back : hourCount file ≡ length hs
     count-back = rw (records-back So2Concentration a) (numbered-length (records So2Concentration) _ ∙ counted 0 So2Concentration)

@@ -19,8 +19,8 @@ use Rattle.columns.specs.Rewritten.{NumberWritten}
 use Rattle.columns.specs.RewrittenLaws.{number-written}
 use Rattle.columns.specs.declared.Field.the-variants.{Number}
 use Rattle.exact.specs.Logic.{both}
-use Rattle.layout.specs.Layout.{codeOf, lengthOf, typeStart, typeWidth, typeDigits, stackStart, stackWidth, dateColumn, dateWidth, valuesOf, noValue}
-use Rattle.layout.specs.Layout.{Within}
+use Rattle.layout.specs.Layout.{codeOf, lengthOf, typeStart, typeWidth, typeDigits, stackStart, stackWidth, dateColumn, dateWidth, valuesOf}
+use Rattle.layout.specs.Values.{noValue, Within}
 use Rattle.layout.specs.LayoutLaws.{each, length-least}
 use Rattle.lines.specs.FaultLaws.{field-right}
 use Rattle.layout.specs.declared.values.Value.{Value}

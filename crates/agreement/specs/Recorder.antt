@@ -7,7 +7,7 @@ use Rattle.formulas.specs.Hour.{Monitored, Unrounded, setOf}
 use Rattle.formulas.specs.Formulas.{hourFrom}
 use Rattle.formulas.specs.FormulaLaws.{recorded-behind}
 use Rattle.totals.specs.Totals.{quarterTotals}
-use Rattle.checker.specs.Checked.{acceptance, numbersOf, checked}
+use Rattle.checker.specs.Checked.{acceptance, answerNumbers, checked}
 use Rattle.checker.specs.Promise.{SetsBehind, HonestlyRounded}
 use Rattle.writer.specs.Recorded.{ReportHour, recordedHours}
 use Rattle.writer.specs.Written.{report}
@@ -37,8 +37,8 @@ readings-behind (h ∷ hs) = ((λ q. recorded-behind q (h .readings) (h .fc) (h 
 -- what is measured may be reported: as rounded it is honest and accepted, with the totals formed
 pub every-unrounded : (year quarter : ℕ) (name : List ℕ) (hs : List UnroundedHour) → Reportable year quarter name (roundedHours hs) →
     HonestlyRounded (report year quarter name (roundedHours hs)) (readingsOf hs)
-    × (numbersOf (checked (report year quarter name (roundedHours hs))) ≡ acceptance (quarterTotals (recordedHours (roundedHours hs))))
+    × (answerNumbers (checked (report year quarter name (roundedHours hs))) ≡ acceptance (quarterTotals (recordedHours (roundedHours hs))))
 every-unrounded year quarter name hs r =
     let b = readings-behind hs in
     let rs = roundedHours hs in
-    (report-honest year quarter name rs r (readingsOf hs) b, ap numbersOf (report-accepted year quarter name rs r (readingsOf hs) b))
+    (report-honest year quarter name rs r (readingsOf hs) b, ap answerNumbers (report-accepted year quarter name rs r (readingsOf hs) b))

@@ -1,46 +1,41 @@
--- The lines of a written report are its records, in the order of their types, and pass the line checks.
+-- The lines of a written report are its records, in the order of their types, and it is right.
 use Prim.Native.Nat.{ℕ, suc, _+_, _-_, _≤_}
-use mathlib.Core.Path.{_≡_, refl, sym, ap, ap₂, _∙_}
+use mathlib.Core.Path.{_≡_, refl, sym, ap, _∙_}
 use mathlib.Core.List.{List, [], _∷_, _++_, map, append-assoc, append-nil}
-use mathlib.Core.Bool.{true, false, not}
+use mathlib.Core.Bool.{true, false}
 use mathlib.Core.Logic.{_⊎_, inl, inr, ⊎-elim}
 use native.Mathlib.Omega.{arith}
-use native.Mathlib.Numerals.{add-one}
 use lib.Dec.{eqb}
 use lib.ListN.{length, length-map}
-use borrow.Author.Tests.{ne-eqb, not-true}
+use borrow.Author.Tests.{ne-eqb}
 use Rattle.columns.specs.Bytes.{isPrintable, all}
 use Rattle.columns.specs.BytesLaws.{all-head, all-tail}
 use Rattle.calendar.specs.Calendar.{mostHours}
-use Rattle.layout.specs.Layout.{recordOf, codeOf, dateColumn, stackWidth, valuesOf, order, later, shape, shapeWith}
-use Rattle.exact.specs.Logic.{both, All}
-use Rattle.layout.specs.PlaceLaws.{joinedRuns}
-use Rattle.layout.specs.RunLaws.{once-type, hourly-dated, listed-dated}
-use Rattle.layout.specs.TypeLaws.{absent, only-once}
+use Rattle.layout.specs.Layout.{dateColumn, stackWidth, valuesOf, order, shape, joinedRuns}
+use Rattle.exact.specs.Logic.{All}
 use Rattle.layout.specs.declared.RecordType.{RecordType}
 use Rattle.layout.specs.declared.RecordType.the-variants.{Facility, So2Concentration, NoxConcentration, Co2Concentration, VolumetricFlow, Operation}
 use Rattle.layout.specs.declared.RecordType.the-variants.{QuarterTotals, So2Mass, NoxRate, Co2Mass}
-use Rattle.layout.specs.declared.Shape.{Shape}
-use Rattle.layout.specs.declared.Run.{Run}
-use Rattle.layout.specs.declared.Run.the-variants.{Once, Hourly, Listed}
 use Rattle.formulas.specs.Hour.{HourWithin, HoursWithin}
-use Rattle.totals.specs.Totals.{quarterTotals}
 use Rattle.totals.specs.FitLaws.{totals-fit}
-use Rattle.totals.specs.declared.Quarter.{Quarter}
 use Rattle.lines.specs.Lines.{onto, lines, last}
-use Rattle.lines.specs.LineFaults.{typeIs, Due, dueOf, dueFault}
-use Rattle.lines.specs.FaultLaws.{type-same, right-due}
-use Rattle.reading.specs.Reading.{firstTypes, lastTypes, hoursDue, runOf, runsOf, After, endOperations, walkOperations, walkEnd, walkLast}
-use Rattle.reading.specs.Reading.{walkListed, walkLater, walkHours, walk, readOf}
-use Rattle.reading.specs.CleanLaws.{Matches, ended-walked, matches-walked}
+use Rattle.lines.specs.LineFaults.{typeIs}
+use Rattle.columns.specs.Columns.{columns}
+use Rattle.lines.specs.FaultLaws.{facility-said, hour-said, right-due}
+use Rattle.lines.specs.OperationLaws.{said-operating}
+use Rattle.lines.specs.RightLine.{RightListed}
+use Rattle.lines.specs.RightLaws.{facility-right, hour-right, due-says, RightTime, operation-right}
+use Rattle.lines.specs.RightLaws.RightTime.{runs}
+use Rattle.lines.specs.declared.Period.{Period}
+use Rattle.reading.specs.RightFile.{RightHours, RightRun, RightOperations, RightFile}
+use Rattle.reading.specs.RightFile.RightOperations.{done, operating}
 use Rattle.reading.specs.declared.Report.{Report}
-use Rattle.reading.specs.declared.Reading.the-variants.{Clean}
-use Rattle.sheet.specs.TestLaws.{Heading}
+use Rattle.sheet.specs.SheetTests.{Heading}
 use Rattle.writer.specs.Recorded.{ReportHour, recordedHours}
-use Rattle.records.specs.Records.{ended, facilityRecord, hourValues, totalValues}
-use Rattle.writer.specs.Written.{hourRecord, onceRecord, runRecords, writtenRecords, lined, report}
+use Rattle.records.specs.Records.{ended, facilityRecord, hourValues, totalValues, totalsRecord}
+use Rattle.writer.specs.Written.{hourRecord, writtenRecords, lined, report}
 use Rattle.writer.specs.ReportLaws.{records-each, records-printable}
-use Rattle.agreement.specs.Reportable.{AllWritable, Rising}
+use Rattle.agreement.specs.Reportable.{AllWritable, Rising, formed}
 use Rattle.agreement.specs.RecordLaws.{framed-type, ValuesWithin}
 use Rattle.agreement.specs.HourRecordLaws.{facility, period, facility-framed, facility-named, hour-framed, hour-due, hour-named, operation-named}
 use Rattle.agreement.specs.HourRecordLaws.{totals-framed, totals-due}
@@ -91,13 +86,6 @@ unfolding Closed
 closed-texts text [] = inl refl
 closed-texts text (t ∷ ts) = closed-append (lined (text t)) (joinedRuns (λ t. lined (text t)) ts) (closed-lined (text t)) (closed-texts text ts)
 
--- lines of one run and of the next
-append-matches : (first : List ℕ) (ds es : List Due) (ls mid rest : List (List ℕ)) → Matches first ds ls mid → Matches first es mid rest →
-    Matches first (ds ++ es) ls rest
-append-matches first [] es ls mid rest p q = rw p q
-append-matches first (d ∷ ds) es [] mid rest p q = absurd p
-append-matches first (d ∷ ds) es (l ∷ ls) mid rest p q = (p .0, append-matches first ds es ls mid rest (p .1) q)
-
 -- the values of an hour in the record of a type lie in their ranges
 pub hour-values-within : (t : RecordType) (h : ReportHour) → 1 ≤ dateColumn t → HourWithin (h .recorded) →
     ValuesWithin (valuesOf t) (hourValues t (h .recorded))
@@ -120,10 +108,6 @@ pub recorded-length : (hs : List ReportHour) → length (recordedHours hs) ≡ l
 recorded-length [] = refl
 recorded-length (h ∷ hs) = ap suc (recorded-length hs)
 
--- the totals that a report states
-abbrev pub formed : List ReportHour → Quarter
-formed hs = quarterTotals (recordedHours hs)
-
 pub totals-within : (year quarter : ℕ) (hs : List ReportHour) → AllWritable year quarter hs → length hs ≤ mostHours →
     ValuesWithin (valuesOf QuarterTotals) (totalValues (formed hs))
 totals-within year quarter hs a b =
@@ -138,11 +122,6 @@ module _ (year quarter : ℕ) (name : List ℕ) (g : Heading year quarter name) 
   abbrev pub recordsIn : List RecordType → List (List ℕ)
   recordsIn [] = []
   recordsIn (t ∷ ts) = records t ++ recordsIn ts
-
-  in-append : (ts us : List RecordType) → recordsIn (ts ++ us) ≡ recordsIn ts ++ recordsIn us
-  in-append [] us = refl
-  in-append (t ∷ ts) us =
-      ap (λ (l : List (List ℕ)). records t ++ l) (in-append ts us) ∙ sym (append-assoc (records t) (recordsIn ts) (recordsIn us))
 
   lines-in : (ts : List RecordType) → lines (joinedRuns (λ t. lined (records t)) ts) ≡ recordsIn ts
   unfolding lines
@@ -171,167 +150,87 @@ module _ (year quarter : ℕ) (name : List ℕ) (g : Heading year quarter name) 
       (λ t d h. framed-type t name _ (hour-framed year quarter name g named t d h))
       t
 
-  -- the lines of the later types are those that are due
+  -- the lines of the hours are right
 
-  abbrev hourLines : List ReportHour → List (List ℕ)
-  hourLines xs = map (hourRecord year quarter name So2Concentration) xs
-
-  first : List ℕ
+  abbrev first : List ℕ
   first = facility year quarter name g named
 
-  hours-due : (t : RecordType) → 1 ≤ dateColumn t → (xs : List ReportHour) (rest : List (List ℕ)) → AllWritable year quarter xs →
-      Matches first (map (dueOf t) (hourLines xs)) (map (hourRecord year quarter name t) xs ++ rest) rest
-  unfolding first
-  hours-due t d [] rest a = refl
-  hours-due t d (x ∷ xs) rest a =
-      let so2 = hour-values-within So2Concentration x (omega arith) (a .0 .within) in
-      (right-due _ _ _ (hour-due year quarter name g named t d x (hour-values-within t x d (a .0 .within)) so2), hours-due t d xs rest (a .1))
+  abbrev own-period : Period
+  own-period = period year quarter name g named
 
-  module _ (a : AllWritable year quarter hs) (few : length hs ≤ mostHours) where
-    type-due : (t : RecordType) (rest : List (List ℕ)) → eqb (codeOf t) (codeOf Facility) ≡ false →
-        Matches first (runOf t (hourLines hs)) (records t ++ rest) rest
-    unfolding runOf writtenRecords first
-    type-due t rest n = go (recordOf t .run) refl
-      where
-        one : (t ≡ Facility) ⊎ (t ≡ QuarterTotals) → dueFault first (dueOf t []) (onceRecord year quarter name hs t) ≡ 0
-        one (inl e) = absurd (let f = rw e at n in let z : _≡_ {A = ℕ} 0 1 = cc in omega arith)
-        one (inr e) = rw e (totals-due year quarter name g named (formed hs) (totals-within year quarter hs a few))
+  abbrev linesOf : RecordType → List ReportHour → List (List ℕ)
+  linesOf t xs = map (hourRecord year quarter name t) xs
 
-        go : (run : Run) → recordOf t .run ≡ run →
-            Matches first (map (dueOf t) (hoursDue run (hourLines hs)))
-            (runRecords run (onceRecord year quarter name hs t) (map (hourRecord year quarter name t) hs) ++ rest) rest
-        go Once e = (one (once-type t e), refl)
-        go Hourly e = hours-due t (hourly-dated t e) hs rest a
-        go Listed e = hours-due t (listed-dated t e) hs rest a
+  so2-within : (x : ReportHour) → HourWithin (x .recorded) → ValuesWithin (valuesOf So2Concentration) (hourValues So2Concentration (x .recorded))
+  so2-within x w = hour-values-within So2Concentration x (omega arith) w
 
-    types-due : (ts : List RecordType) (rest : List (List ℕ)) → absent (codeOf Facility) ts ≡ true →
-        Matches first (runsOf ts (hourLines hs)) (recordsIn ts ++ rest) rest
-    unfolding runsOf
-    types-due [] rest n = refl
-    types-due (t ∷ ts) rest n =
-        let b = both (not (eqb (codeOf t) (codeOf Facility))) (absent (codeOf Facility) ts) n in
-        rw (append-assoc (records t) (recordsIn ts) rest)
-        (append-matches first (runOf t (hourLines hs)) (runsOf ts (hourLines hs)) (records t ++ (recordsIn ts ++ rest)) (recordsIn ts ++ rest) rest
-        (type-due t (recordsIn ts ++ rest) (not-true _ (b .0))) (types-due ts rest (b .1)))
-
-  -- the first of some lines is of another type
-  abbrev Other : RecordType → List (List ℕ) → Type 0
-  Other u [] = Unit {0}
-  Other u (l ∷ ls) = typeIs u l ≡ false
-
-  later-other : (u : RecordType) (ts : List RecordType) → absent (codeOf u) ts ≡ true → Other u (recordsIn ts)
-  later-other u [] n = tt
-  later-other u (t ∷ ts) n =
-      let b = both (not (eqb (codeOf t) (codeOf u))) (absent (codeOf u) ts) n in
-      go (records t) (records-typed t) (not-true _ (b .0)) (later-other u ts (b .1))
-    where
-      go : (rs : List (List ℕ)) → All (λ r. typeIs t r ≡ true) rs → eqb (codeOf t) (codeOf u) ≡ false → Other u (recordsIn ts) →
-          Other u (rs ++ recordsIn ts)
-      go [] e f o = o
-      go (r ∷ rs) e f o = type-same t u r (e .0) ∙ f
-
-  stops : (line from : ℕ) (before later : List (List ℕ)) → Other So2Concentration later →
-      walkHours first (period year quarter name g named) line from before later ≡ walkLater first (period year quarter name g named) line before later
-  unfolding walkHours
-  stops line from before [] o = refl
-  stops line from before (l ∷ ls) o = rw (o, walkHours)
-
-  -- the 200 lines, one after the other
-  hours-walked : (xs : List ReportHour) (line from : ℕ) (before later : List (List ℕ)) → AllWritable year quarter xs →
-      Rising from xs → Other So2Concentration later →
-      walkHours first (period year quarter name g named) line from before (hourLines xs ++ later)
-      ≡ walkLater first (period year quarter name g named) (line + length xs) (before ++ hourLines xs) later
-  unfolding walkHours first
-  hours-walked [] line from before later a r o =
-      let e : line + 0 ≡ line = omega arith in
-      rw (e, append-nil before) (stops line from before later o)
-  hours-walked (x ∷ xs) line from before later a r o =
+  hours-right : (xs : List ReportHour) (from : ℕ) → AllWritable year quarter xs → Rising from xs →
+      RightHours first own-period from (linesOf So2Concentration xs)
+  hours-right [] from a r = tt
+  hours-right (x ∷ xs) from a r =
       let l = hourRecord year quarter name So2Concentration x in
-      let w = hour-values-within So2Concentration x (omega arith) (a .0 .within) in
-      let e : line + 1 + length xs ≡ line + suc (length xs) = omega arith in
-      rw (
-        framed-type So2Concentration name l (hour-framed year quarter name g named So2Concentration (omega arith) x),
-        walkHours,
-        hour-named year quarter name g named x (a .0 .exists) w from (r .0),
-        add-one (x .hour),
-      )
-      (hours-walked xs (line + 1) (suc (x .hour)) (before ++ (l ∷ [])) later (a .1) (r .1) o
-      ∙ ap₂ (λ (n : ℕ) (s : List (List ℕ)). walkLater first (period year quarter name g named) n s later) e (append-assoc before (l ∷ []) (hourLines xs)))
+      let said = hour-said first own-period from l (x .hour)
+      (hour-named year quarter name g named x (a .0 .exists) (so2-within x (a .0 .within)) from (r .0)) in
+      let right = hour-right first own-period from l (said .0) in
+      (x .hour, r .0, rw (said .1) at (right .1), hours-right xs (suc (x .hour)) (a .1) (r .1))
 
-  -- the 300 lines, one after the other: none is idle
-  operations-over : (line from : ℕ) (later : List (List ℕ)) (after : After) → Other Operation later →
-      walkOperations first (period year quarter name g named) line from [] later after ≡ after line later
-  unfolding walkOperations endOperations
-  operations-over line from [] after o = refl
-  operations-over line from (l ∷ ls) after o = rw (o, walkOperations)
+  run-right : (t : RecordType) → 1 ≤ dateColumn t → (xs : List ReportHour) → AllWritable year quarter xs →
+      RightRun first t (linesOf So2Concentration xs) (linesOf t xs)
+  run-right t d [] a = tt
+  run-right t d (x ∷ xs) a =
+      let due = hour-due year quarter name g named t d x (hour-values-within t x d (a .0 .within)) (so2-within x (a .0 .within)) in
+      (due-says first t _ _ (right-due first _ _ due), run-right t d xs (a .1))
 
-  operations-walked : (xs : List ReportHour) (line from : ℕ) (later : List (List ℕ)) (after : After) → AllWritable year quarter xs →
-      Rising from xs → Other Operation later →
-      walkOperations first (period year quarter name g named) line from (hourLines xs) (map (hourRecord year quarter name Operation) xs ++ later) after
-      ≡ after (line + length xs) later
-  unfolding walkOperations first
-  operations-walked [] line from later after a r o =
-      let e : line + 0 ≡ line = omega arith in
-      rw e (operations-over line from later after o)
-  operations-walked (x ∷ xs) line from later after a r o =
+  -- none of the 300 lines is idle
+  operations-right : (xs : List ReportHour) (from : ℕ) → AllWritable year quarter xs → Rising from xs →
+      RightOperations first own-period from (linesOf So2Concentration xs) (linesOf Operation xs)
+  operations-right [] from a r = done
+  operations-right (x ∷ xs) from a r =
       let l = hourRecord year quarter name Operation x in
+      let date = columns 16 8 (hourRecord year quarter name So2Concentration x) in
       let w = hour-values-within Operation x (omega arith) (a .0 .within) in
-      let so2 = hour-values-within So2Concentration x (omega arith) (a .0 .within) in
-      let e : line + 1 + length xs ≡ line + suc (length xs) = omega arith in
-      rw (
-        framed-type Operation name l (hour-framed year quarter name g named Operation (omega arith) x),
-        walkOperations,
-        operation-named year quarter name g named x (a .0 .exists) w so2 from (r .0),
-        add-one (x .hour),
-        ← e,
-      )
-      (operations-walked xs (line + 1) (suc (x .hour)) later after (a .1) (r .1) o)
+      let said = said-operating first own-period from date l (x .hour)
+      (operation-named year quarter name g named x (a .0 .exists) w (so2-within x (a .0 .within)) from (r .0)) in
+      let right = operation-right first own-period from date l (said .right) in
+      on (rw (said .operates) at (right .2)) (rw (said .hour) at (right .1)) (operations-right xs (suc (x .hour)) (a .1) (r .1))
+    where
+      on : RightTime (columns 16 8 (hourRecord year quarter name So2Concentration x)) (hourRecord year quarter name Operation x) true →
+          RightListed first own-period (x .hour) (hourRecord year quarter name Operation x) →
+          RightOperations first own-period (suc (x .hour)) (linesOf So2Concentration xs) (linesOf Operation xs) →
+          RightOperations first own-period from (linesOf So2Concentration (x ∷ xs)) (linesOf Operation (x ∷ xs))
+      on (runs d t h) w m = operating (x .hour) (r .0) w (record { date = d; time = t; heat = h }) m
 
   module _ (a : AllWritable year quarter hs) (r : Rising 0 hs) (few : length hs ≤ mostHours) where
     abbrev pub own : Report
-    own = record { period = period year quarter name g named; shape = shape (length hs) }
+    own = record { period = own-period; shape = shape (length hs) }
 
-    walk-first : (ls : List (List ℕ)) → walk (first ∷ ls) ≡ walkHours first (period year quarter name g named) 2 0 [] ls
-    unfolding walk first
-    walk-first ls = rw (facility-named year quarter name g named, walk)
-
-    lines-length : length (hourLines hs) ≡ length hs
-    lines-length = length-map hs (hourRecord year quarter name So2Concentration)
-
-    -- behind the 300 lines, behind the 220 lines and behind the 200 lines
-    last-clean : (s : Shape) (line : ℕ) → walkLast first (period year quarter name g named) s line (hourLines hs) (recordsIn lastTypes)
-        ≡ Clean (record { period = period year quarter name g named; shape = s })
-    unfolding walkLast walkEnd
-    last-clean s line =
-        ap (λ (ls : List (List ℕ)). walkLast first (period year quarter name g named) s line (hourLines hs) ls) (sym (append-nil (recordsIn lastTypes)))
-        ∙ matches-walked first line (runsOf lastTypes (hourLines hs)) (recordsIn lastTypes ++ []) [] _ (types-due a few lastTypes [] refl)
-
-    listed-clean : (line : ℕ) → walkListed first (period year quarter name g named) line (hourLines hs) (records Operation ++ recordsIn lastTypes) ≡ Clean own
-    unfolding walkListed writtenRecords
-    listed-clean line =
-        let z : line + length hs - line ≡ length hs = omega arith in
-        operations-walked hs line 0 (recordsIn lastTypes) _ a r (later-other Operation lastTypes refl)
-        ∙ last-clean _ (line + length hs)
-        ∙ ap₂ (λ (n m : ℕ). Clean (record { period = period year quarter name g named; shape = shapeWith n m })) lines-length z
-
-    later-clean : (line : ℕ) → walkLater first (period year quarter name g named) line (hourLines hs) (recordsIn (later So2Concentration)) ≡ Clean own
-    unfolding walkLater
-    later-clean line =
-        ap (λ (ls : List (List ℕ)). walkLater first (period year quarter name g named) line (hourLines hs) ls) split
-        ∙ matches-walked first line (runsOf firstTypes (hourLines hs)) (recordsIn firstTypes ++ behind) behind _ (types-due a few firstTypes behind refl)
-        ∙ listed-clean (line + length (runsOf firstTypes (hourLines hs)))
-      where
-        behind : List (List ℕ)
-        behind = records Operation ++ recordsIn lastTypes
-
-        split : recordsIn (later So2Concentration) ≡ recordsIn firstTypes ++ behind
-        split = in-append firstTypes (Operation ∷ lastTypes)
-
-    pub report-clean : readOf (report year quarter name hs) ≡ Clean own
-    unfolding writtenRecords first
-    report-clean =
-        ended-walked (report year quarter name hs) report-last
-        ∙ ap walk report-lines
-        ∙ walk-first (records So2Concentration ++ recordsIn (later So2Concentration))
-        ∙ hours-walked hs 2 0 [] (recordsIn (later So2Concentration)) a r (later-other So2Concentration (later So2Concentration) (only-once So2Concentration))
-        ∙ later-clean (2 + length hs)
+    pub report-right : RightFile (report year quarter name hs) own
+    unfolding writtenRecords
+    report-right =
+        let said = facility-said first own-period (facility-named year quarter name g named) in
+        record {
+          ended = report-last;
+          facility = first;
+          hours = linesOf So2Concentration hs;
+          nox = linesOf NoxConcentration hs;
+          co2 = linesOf Co2Concentration hs;
+          flow = linesOf VolumetricFlow hs;
+          operations = linesOf Operation hs;
+          totals = totalsRecord name (formed hs);
+          so2Mass = linesOf So2Mass hs;
+          noxRate = linesOf NoxRate hs;
+          co2Mass = linesOf Co2Mass hs;
+          order = report-lines ∙ rw (append-nil (linesOf Co2Mass hs));
+          right-facility = rw (said .1) at (facility-right first (said .0));
+          right-hours = hours-right hs 0 a r;
+          right-nox = run-right NoxConcentration (omega arith) hs a;
+          right-co2 = run-right Co2Concentration (omega arith) hs a;
+          right-flow = run-right VolumetricFlow (omega arith) hs a;
+          right-operations = operations-right hs 0 a r;
+          right-totals = due-says first QuarterTotals [] _ (totals-due year quarter name g named (formed hs) (totals-within year quarter hs a few));
+          right-so2-mass = run-right So2Mass (omega arith) hs a;
+          right-nox-rate = run-right NoxRate (omega arith) hs a;
+          right-co2-mass = run-right Co2Mass (omega arith) hs a;
+          hour-count = sym (length-map hs (hourRecord year quarter name So2Concentration));
+          operation-count = sym (length-map hs (hourRecord year quarter name Operation));
+        }

@@ -7,8 +7,10 @@ use mathlib.Core.List.{List, [], _∷_}
 use lib.ListN.{length}
 use Rattle.exact.specs.Logic.{All}
 use Rattle.layout.specs.Layout.{stackWidth}
-use Rattle.sheet.specs.TestLaws.{Heading}
-use Rattle.writer.specs.Recorded.{ReportHour}
+use Rattle.sheet.specs.SheetTests.{Heading}
+use Rattle.totals.specs.Totals.{quarterTotals}
+use Rattle.totals.specs.declared.Quarter.{Quarter}
+use Rattle.writer.specs.Recorded.{ReportHour, recordedHours}
 use Rattle.writer.specs.Writable.{HourWritable}
 
 abbrev pub AllWritable : ℕ → ℕ → List ReportHour → Type 0
@@ -29,3 +31,7 @@ pub record Reportable (year quarter : ℕ) (name : List ℕ) (hs : List ReportHo
   pub hours : AllWritable year quarter hs
   pub monitored : AllMonitored hs
   pub rises : Rising 0 hs
+
+-- the totals that a report states
+abbrev pub formed : List ReportHour → Quarter
+formed hs = quarterTotals (recordedHours hs)

@@ -8,7 +8,7 @@ use lib.Dec.{eqb, leb}
 use borrow.Author.Tests.{leb-true, le-leb, lt-leb, eq-eqb, ne-eqb}
 use Rattle.calendar.specs.Calendar.{mostHours}
 use Rattle.exact.specs.Logic.{both}
-use Rattle.layout.specs.Layout.{within, quarterDigit}
+use Rattle.layout.specs.Values.{within, quarterDigit}
 use Rattle.totals.specs.declared.Quarter.{Quarter}
 use Rattle.annual.specs.Joined.{allZeros, follows, yearLimit, sumsFit, joinedOf}
 use Rattle.annual.specs.declared.YearToDate.{YearToDate}

@@ -9,12 +9,12 @@ use lib.Dec.{eqb}
 use lib.ListN.{length}
 use borrow.Author.Tests.{eq-eqb, ne-eqb, le-leb}
 use Rattle.calendar.specs.Calendar.{mostHours}
-use Rattle.layout.specs.Layout.{quarterDigit}
+use Rattle.layout.specs.Values.{quarterDigit}
 use Rattle.layout.specs.LayoutLaws.{true-within}
 use Rattle.totals.specs.FitLaws.{mostTotal, mostNoxTons, QuarterMost}
 use Rattle.totals.specs.declared.Quarter.{Quarter}
 use Rattle.checker.specs.PromiseLaws.{accepted-most}
-use Rattle.annual.specs.Joined.{numbersOf, allZeros, follows, yearLimit, sumsFit, withQuarter, joinedOf}
+use Rattle.annual.specs.Joined.{yearNumbers, allZeros, follows, yearLimit, sumsFit, withQuarter, joinedOf}
 use Rattle.annual.specs.JoinedLaws.{joined-record}
 use Rattle.annual.specs.Year.{Part, noneOf, andThen, joinedFrom, Consecutive}
 use Rattle.annual.specs.declared.YearToDate.{YearToDate}
@@ -87,5 +87,5 @@ none-after year = record {
 }
 
 pub always-joins : (year : ℕ) (parts : List Part) → Consecutive year 1 parts → length parts ≤ 4 →
-    (y : YearToDate) × (numbersOf (joinedFrom (noneOf year) parts) ≡ numbersOf (Record y))
-always-joins year parts c few = let j = joins parts year 0 (noneOf year) (none-after year) c (omega arith) in (j .0, ap numbersOf (j .1))
+    (y : YearToDate) × (yearNumbers (joinedFrom (noneOf year) parts) ≡ yearNumbers (Record y))
+always-joins year parts c few = let j = joins parts year 0 (noneOf year) (none-after year) c (omega arith) in (j .0, ap yearNumbers (j .1))

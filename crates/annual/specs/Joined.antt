@@ -4,16 +4,16 @@ use mathlib.Core.List.{List, [], _∷_}
 use mathlib.Core.Bool.{Bool, true, false, _&&_, _||_, not}
 use lib.Dec.{eqb, leb}
 use Rattle.calendar.specs.Calendar.{mostHours}
-use Rattle.layout.specs.Layout.{within, quarterDigit}
+use Rattle.layout.specs.Values.{within, quarterDigit}
 use Rattle.totals.specs.declared.Quarter.{Quarter}
 use Rattle.annual.specs.declared.YearToDate.{YearToDate}
 use Rattle.annual.specs.declared.Joined.{Joined}
 use Rattle.annual.specs.declared.Joined.the-variants.{Record, Refused}
 
 -- what a joining says: the seven numbers of the record, or that of the refusal
-abbrev pub numbersOf : Joined → List ℕ
-numbersOf (Record y) = y .year ∷ y .quarter ∷ y .hours ∷ y .so2 ∷ y .co2 ∷ y .heat ∷ y .«nox_tons» ∷ []
-numbersOf (Refused number) = number ∷ []
+abbrev pub yearNumbers : Joined → List ℕ
+yearNumbers (Record y) = y .year ∷ y .quarter ∷ y .hours ∷ y .so2 ∷ y .co2 ∷ y .heat ∷ y .«nox_tons» ∷ []
+yearNumbers (Refused number) = number ∷ []
 
 -- a record with neither hours nor amounts
 unfoldable pub allZeros : YearToDate → Bool

@@ -8,10 +8,10 @@ use lib.ListN.{length, getD}
 use borrow.Author.Tests.{eqb-true, leb-true}
 use Rattle.calendar.specs.Calendar.{mostHours}
 use Rattle.exact.specs.Logic.{both}
-use Rattle.layout.specs.Layout.{Within, quarterDigit}
+use Rattle.layout.specs.Values.{Within, quarterDigit}
 use Rattle.layout.specs.LayoutLaws.{within-true}
 use Rattle.totals.specs.declared.Quarter.{Quarter}
-use Rattle.annual.specs.Joined.{numbersOf, follows, sumsFit, withQuarter, joinedOf}
+use Rattle.annual.specs.Joined.{yearNumbers, follows, sumsFit, withQuarter, joinedOf}
 use Rattle.annual.specs.declared.YearToDate.{YearToDate}
 use Rattle.annual.specs.declared.Joined.{Joined}
 use Rattle.annual.specs.declared.Joined.the-variants.{Record, Refused}
@@ -28,9 +28,9 @@ unfolding recordIn
 same-record x y e = ap (recordIn y) e
 
 -- the numbers that a joining says determine its record
-pub says-record : (j : Joined) (y : YearToDate) → numbersOf j ≡ numbersOf (Record y) → j ≡ Record y
+pub says-record : (j : Joined) (y : YearToDate) → yearNumbers j ≡ yearNumbers (Record y) → j ≡ Record y
 says-record (Record x) y e =
-    let at : (k : ℕ) → getD (numbersOf (Record x)) k 0 ≡ getD (numbersOf (Record y)) k 0 = λ k. ap (λ (l : List ℕ). getD l k 0) e in
+    let at : (k : ℕ) → getD (yearNumbers (Record x)) k 0 ≡ getD (yearNumbers (Record y)) k 0 = λ k. ap (λ (l : List ℕ). getD l k 0) e in
     λ i. Record (record { year = at 0 i; quarter = at 1 i; hours = at 2 i; so2 = at 3 i; co2 = at 4 i; heat = at 5 i; «nox_tons» = at 6 i })
 says-record (Refused number) y e = absurd (let l = ap length e in omega arith)
 

@@ -17,7 +17,7 @@ use Rattle.formulas.specs.declared.hour.Quantity.the-variants.{Heat, So2, Co2}
 use Rattle.totals.specs.Mass.{massTons}
 use Rattle.totals.specs.declared.Quarter.{Quarter}
 use Rattle.reading.specs.Recorded.{hoursOf}
-use Rattle.checker.specs.Checked.{acceptance, checked, numbersOf as answerNumbers}
+use Rattle.checker.specs.Checked.{acceptance, checked, answerNumbers}
 use Rattle.checker.specs.Promise.{LieBehind, exactAmount}
 use Rattle.annual.specs.Joined.{joinedOf}
 use Rattle.annual.specs.declared.YearToDate.{YearToDate}

@@ -19,7 +19,7 @@ use Rattle.totals.specs.declared.Quarter.{Quarter}
 use Rattle.reading.specs.Recorded.{hoursOf}
 use Rattle.checker.specs.Promise.{LieBehind, exactAmount, reported, allowed}
 use Rattle.checker.specs.PromiseLaws.{promise}
-use Rattle.annual.specs.Joined.{numbersOf, joinedOf}
+use Rattle.annual.specs.Joined.{yearNumbers, joinedOf}
 use Rattle.annual.specs.JoinedLaws.{says-record, same-record, never-record, record-joined}
 use Rattle.annual.specs.Year.{Part, noneOf, andThen, joinedFrom, Consecutive, Summed, so2, co2, heat, reportedYear, allowedYear}
 use Rattle.annual.specs.Year.{BehindAll, exactYear, YearPromise}
@@ -131,7 +131,7 @@ module _ (parts : List Part) (y : YearToDate) (h : y .hours ≡ hoursIn parts) w
   year-near a b c Co2 co2 ess l = rw (b, h) (parts-near Co2 (λ r. r .co2) 20 (lit< tt) (part-near Co2) parts ess l)
   year-near a b c Heat heat ess l = rw (c, h) (parts-near Heat (λ r. r .heat) 20 (lit< tt) (part-near Heat) parts ess l)
 
-pub year-promise : (year : ℕ) (parts : List Part) (y : YearToDate) → numbersOf (joinedFrom (noneOf year) parts) ≡ numbersOf (Record y) →
+pub year-promise : (year : ℕ) (parts : List Part) (y : YearToDate) → yearNumbers (joinedFrom (noneOf year) parts) ≡ yearNumbers (Record y) →
     YearPromise year parts y
 unfolding hoursIn
 year-promise year parts y e =

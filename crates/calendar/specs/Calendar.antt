@@ -42,6 +42,20 @@ inQuarter year quarter date =
     && leb 1 (date .day) && leb (date .day) (daysInMonth year (date .month))
     && leb (date .hour) 23
 
+pub record Between (low n high : ℕ) : Type 0 where
+  pub least : low ≤ n
+  pub most : n ≤ high
+
+-- one of three months
+abbrev pub InMonths : ℕ → ℕ → Type 0
+InMonths first month = Between first month (first + 2)
+
+-- the same as facts
+pub record LiesIn (year quarter : ℕ) (date : Date) : Type 0 where
+  pub months : InMonths (firstMonth quarter) (date .month)
+  pub days : Between 1 (date .day) (daysInMonth year (date .month))
+  pub hours : date .hour ≤ 23
+
 -- the days of the quarter that starts with the month `first`, before the first day of a month of it
 unfoldable pub daysBefore : ℕ → ℕ → ℕ → ℕ
 daysBefore year first month =
@@ -66,3 +80,9 @@ dateOfHour year quarter hour =
 -- where a date lies in the quarter
 unfoldable pub quarterHour : ℕ → ℕ → Date → QuarterHour
 quarterHour year quarter date = cond (inQuarter year quarter date) (At (hourOfQuarter year quarter date)) Outside
+
+-- each part of a date has two digits at most
+pub record TwoDigits (date : Date) : Type 0 where
+  pub months : Between 1 (date .month) 12
+  pub days : Between 1 (date .day) 31
+  pub hours : date .hour ≤ 23

@@ -1,6 +1,6 @@
 -- What holds of the hours and the dates of a quarter: how many hours there are, that hours and dates are each other's inverse,
 -- and what bounds them.
-use Prim.Native.Nat.{ℕ, _+_, _*_, _-_, _/_, _%_, _≤_, _<_}
+use Prim.Native.Nat.{ℕ, _+_, _*_, _-_, _/_, _%_, _<_}
 use mathlib.Core.Bool.{Bool, true, false, cond, _&&_, and-eq-true-iff}
 use mathlib.Core.Path.{_≡_, refl, ap, sym, subst⁻¹, _∙_}
 use native.Mathlib.Omega.{arith}
@@ -9,15 +9,9 @@ use borrow.Author.Tests.{le-leb, leb-true}
 use lib.Dec.{leb}
 use Rattle.calendar.specs.declared.Date.{Date}
 use Rattle.calendar.specs.declared.QuarterHour.the-variants.{At, Outside}
-use Rattle.calendar.specs.Calendar.{mostHours, IsQuarter, leapYear, daysInMonth, firstMonth, daysInQuarter, hoursInQuarter}
-use Rattle.calendar.specs.Calendar.{inQuarter, daysBefore, hourOfQuarter, monthOfDay, dateOfHour, quarterHour}
-use Rattle.calendar.specs.MonthLaws.{Between, cond-between, days-in-month, InMonths, month-ends, Holds, month-starts, month-holds, month-of-day}
-
--- inQuarter as facts: lies-in and in-quarter go from the test to them and back
-pub record LiesIn (year quarter : ℕ) (date : Date) : Type 0 where
-  pub months : InMonths (firstMonth quarter) (date .month)
-  pub days : Between 1 (date .day) (daysInMonth year (date .month))
-  pub hours : date .hour ≤ 23
+use Rattle.calendar.specs.Calendar.{LiesIn, TwoDigits, mostHours, IsQuarter, leapYear, daysInMonth, firstMonth, daysInQuarter, hoursInQuarter}
+use Rattle.calendar.specs.Calendar.{inQuarter, daysBefore, hourOfQuarter, monthOfDay, dateOfHour, quarterHour, Between}
+use Rattle.calendar.specs.MonthLaws.{cond-between, days-in-month, month-ends, Holds, month-starts, month-holds, month-of-day}
 
 all-five : (a b c d e : Bool) → (a && b && c && d && e) ≡ true → (a ≡ true) × (b ≡ true) × (c ≡ true) × (d ≡ true) × (e ≡ true)
 all-five a b c d e h =
@@ -111,12 +105,6 @@ module _ (year quarter : ℕ) where
   pub date-of-hour : (date : Date) → LiesIn year quarter date → dateOfHour year quarter (hourOfQuarter year quarter date) ≡ date
   unfolding hourOfQuarter
   date-of-hour date h = date-at (firstMonth quarter) refl date (hourOfQuarter year quarter date) (omega arith) (omega arith) (omega arith)
-
--- Each part of a date has two digits at most.
-pub record TwoDigits (date : Date) : Type 0 where
-  pub months : Between 1 (date .month) 12
-  pub days : Between 1 (date .day) 31
-  pub hours : date .hour ≤ 23
 
 module _ (year quarter : ℕ) (q : IsQuarter quarter) where
   pub two-digits : (date : Date) → LiesIn year quarter date → TwoDigits date

@@ -6,11 +6,7 @@ use native.Mathlib.Omega.{arith}
 use native.Mathlib.Decide.{ℕ-discrete, decLt}
 use borrow.Author.Tests.{lt-ltb, le-ltb}
 use lib.Dec.{eqb, ltb}
-use Rattle.calendar.specs.Calendar.{leapYear, thirtyDays, daysInMonth, daysBefore, monthOfDay}
-
-pub record Between (low n high : ℕ) : Type 0 where
-  pub least : low ≤ n
-  pub most : n ≤ high
+use Rattle.calendar.specs.Calendar.{Between, InMonths, leapYear, thirtyDays, daysInMonth, daysBefore, monthOfDay}
 
 pub cond-between : (low high a b : ℕ) (t : Bool) → Between low a high → Between low b high → Between low (cond t a b) high
 cond-between low high a b true p q = p
@@ -34,9 +30,6 @@ days-before days year first month e =
       cond-between 0 31 (daysInMonth year first) 0 (ltb first month) (omega (arith, days-in-month year first)) (omega arith),
       cond-between 0 31 (daysInMonth year (first + 1)) 0 (ltb (first + 1) month) (omega (arith, days-in-month year (first + 1))) (omega arith),
     )
-
-abbrev pub InMonths : ℕ → ℕ → Type 0
-InMonths first month = Between first month (first + 2)
 
 -- the days before each of the three months
 pub record Starts (year first : ℕ) : Type 0 where

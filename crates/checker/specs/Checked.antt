@@ -39,9 +39,9 @@ acceptance r = r .hours ∷ map (λ (t : Stated). t .amount r) statedTotals
 abbrev pub refusal : ℕ → ℕ → List ℕ
 refusal number line = number ∷ line ∷ []
 
-abbrev pub numbersOf : Answer → List ℕ
-numbersOf (Accepted r) = acceptance r
-numbersOf (Refused r) = refusal (r .number) (r .line)
+abbrev pub answerNumbers : Answer → List ℕ
+answerNumbers (Accepted r) = acceptance r
+answerNumbers (Refused r) = refusal (r .number) (r .line)
 
 abbrev pub refusedAt : ℕ → ℕ → Answer
 refusedAt number line = Refused (record { number = number; line = line })

@@ -13,7 +13,8 @@ use Rattle.columns.specs.Columns.{columns, put}
 use Rattle.columns.specs.Number.{digitsFrom, wholeOf, decimalsBehind, fixedOf, fieldOf, isEmpty, numberOf}
 use Rattle.columns.specs.Written.{digitsOf}
 use Rattle.calendar.specs.Calendar.{leapYear, daysInMonth, inQuarter, daysBefore, hourOfQuarter, quarterHour}
-use Rattle.layout.specs.Layout.{so2Ppm, so2Rate, noxTons, lengthOf, dateColumn, hourly, order, shape, offsetOf, within}
+use Rattle.layout.specs.Layout.{lengthOf, dateColumn, hourly, order, shape, offsetOf}
+use Rattle.layout.specs.Values.{so2Ppm, so2Rate, noxTons, within}
 use Rattle.layout.specs.declared.RecordType.{RecordType}
 use Rattle.layout.specs.declared.RecordType.the-variants.{So2Concentration, NoxConcentration, Co2Concentration, VolumetricFlow, Operation}
 use Rattle.layout.specs.declared.RecordType.the-variants.{QuarterTotals, So2Mass, NoxRate, Co2Mass}
@@ -27,7 +28,7 @@ use Rattle.lines.specs.LineFaults.{so2Fault, hasGas, so2Blank, gasFault, operat
 use Rattle.reading.specs.Reading.{runOf, runsOf, walkDue, endOperations, walkOperations, walkEnd, walkLast, walkListed, walkLater, walkHours, walk, readOf}
 use Rattle.reading.specs.Idle.{withoutIdle, WithoutIdle}
 use Rattle.reading.specs.Recorded.{linesWith, idle, recordsOf, valueOn, hourAt, hoursOf, totalsIn}
-use Rattle.checker.specs.Checked.{refusal, numbersOf, judgedFigures, judgedHours, firstDiffering, comparedTotals, judged, afterReading, checked}
+use Rattle.checker.specs.Checked.{refusal, answerNumbers, judgedFigures, judgedHours, firstDiffering, comparedTotals, judged, afterReading, checked}
 
 -- one hour at 2005 quarter 3, hour 0, time 0.50, SO2 250.0, NOx 200.0, CO2 12.0, flow 20,000,000, Fc 1,800.0
 unfoldable pub workedHour : List ℕ
@@ -138,6 +139,10 @@ damages =
     ∷ record { file = changed QuarterTotals 39 (57 ∷ []); number = 23; line = 7 }
     ∷ record { file = put (start QuarterTotals + 59) (57 ∷ []) (changed QuarterTotals 46 (57 ∷ [])); number = 24; line = 7 }
     ∷ record { file = changed QuarterTotals 59 (57 ∷ []); number = 48; line = 7 }
+    -- two totals: the first in order
+    ∷ record { file = put (start QuarterTotals + 28) (57 ∷ []) (changed QuarterTotals 20 (57 ∷ [])); number = 21; line = 7 }
+    ∷ record { file = put (start QuarterTotals + 39) (57 ∷ []) (changed QuarterTotals 28 (57 ∷ [])); number = 22; line = 7 }
+    ∷ record { file = put (start QuarterTotals + 46) (57 ∷ []) (changed QuarterTotals 39 (57 ∷ [])); number = 23; line = 7 }
     -- NOx tons 100,000,000.1: all their columns count
     ∷ record { file = changed QuarterTotals (noxTons .start) (49 ∷ replicate 8 48); number = 48; line = 7 }
     -- 301 ends before its NOx tons; they are blank
@@ -257,24 +262,24 @@ gasDamages =
 
 unfoldable pub allAnswered : List (List ℕ) → List ℕ → Bool
 allAnswered [] numbers = true
-allAnswered (f ∷ fs) numbers = same (numbersOf (checked f)) numbers && allAnswered fs numbers
+allAnswered (f ∷ fs) numbers = same (answerNumbers (checked f)) numbers && allAnswered fs numbers
 
 unfoldable pub allNamed : List Damage → Bool
 allNamed [] = true
-allNamed (d ∷ ds) = same (numbersOf (checked (d .file))) (refusal (d .number) (d .line)) && allNamed ds
+allNamed (d ∷ ds) = same (answerNumbers (checked (d .file))) (refusal (d .number) (d .line)) && allNamed ds
 
 -- what the check answers to the worked hour (also with 829.8, 830.1 and 830.2 lb/hr, with GAX for GAS, and with idle hours about it), to the
 -- empty quarter (also with idle hours alone), to the gas hour and to the damaged files
-pub answers : (numbersOf (checked workedHour) ≡ 1 ∷ 2 ∷ 684 ∷ 6667 ∷ 358 ∷ 1 ∷ [])
+pub answers : (answerNumbers (checked workedHour) ≡ 1 ∷ 2 ∷ 684 ∷ 6667 ∷ 358 ∷ 1 ∷ [])
     × (allAnswered (lowest ∷ between ∷ highest ∷ changed So2Mass 32 (71 ∷ 65 ∷ 88 ∷ []) ∷ []) (1 ∷ 2 ∷ 684 ∷ 6667 ∷ 358 ∷ 1 ∷ []) ≡ true)
-    × (numbersOf (checked emptyQuarter) ≡ 0 ∷ 0 ∷ 0 ∷ 0 ∷ 0 ∷ 0 ∷ [])
+    × (answerNumbers (checked emptyQuarter) ≡ 0 ∷ 0 ∷ 0 ∷ 0 ∷ 0 ∷ 0 ∷ [])
     × (allNamed damages ≡ true)
     × (allAnswered (withListed (operatingLine 1) ∷ withListed (idleLine 0 ++ operatingLine 1) ∷ withListed
     (idleLine 0 ++ operatingLine 1 ++ idleLine 2 ++ idleLine 9) ∷ [])
     (1 ∷ 2 ∷ 684 ∷ 6667 ∷ 358 ∷ 1 ∷ []) ≡ true)
-    × (numbersOf (checked (emptyListed (idleLine 0 ++ idleLine 1 ++ idleLine 9))) ≡ 0 ∷ 0 ∷ 0 ∷ 0 ∷ 0 ∷ 0 ∷ [])
+    × (answerNumbers (checked (emptyListed (idleLine 0 ++ idleLine 1 ++ idleLine 9))) ≡ 0 ∷ 0 ∷ 0 ∷ 0 ∷ 0 ∷ 0 ∷ [])
     × (allNamed idleDamages ≡ true)
-    × (numbersOf (checked gasHour) ≡ 1 ∷ 0 ∷ 684 ∷ 6667 ∷ 358 ∷ 1 ∷ [])
+    × (answerNumbers (checked gasHour) ≡ 1 ∷ 0 ∷ 684 ∷ 6667 ∷ 358 ∷ 1 ∷ [])
     × (allNamed gasDamages ≡ true)
 unfolding workedHour emptyQuarter allAnswered allNamed put listed withListed emptyListed
     over meets totalOf all same columns digitsFrom wholeOf decimalsBehind fixedOf fieldOf numberOf digitsOf leapYear daysInMonth inQuarter daysBefore

@@ -5,25 +5,24 @@ use mathlib.Core.List.{List}
 use Rattle.formulas.specs.declared.hour.Hour.{Hour}
 use Rattle.totals.specs.Totals.{quarterTotals}
 use Rattle.totals.specs.declared.Quarter.{Quarter}
-use Rattle.reading.specs.Reading.{readOf}
 use Rattle.reading.specs.Recorded.{hoursOf, totalsIn}
+use Rattle.reading.specs.RightFile.{RightFile}
 use Rattle.reading.specs.Idle.{WithoutIdle}
-use Rattle.reading.specs.IdleLaws.{idle-hours, idle-totals, idle-clean}
+use Rattle.reading.specs.IdleLaws.{idle-hours, idle-totals, idle-right}
 use Rattle.reading.specs.declared.Report.{Report}
-use Rattle.reading.specs.declared.Reading.the-variants.{Clean}
-use Rattle.checker.specs.Checked.{acceptance, numbersOf, checked}
+use Rattle.checker.specs.Checked.{acceptance, answerNumbers, checked}
 use Rattle.checker.specs.Idle.{IdleFree}
 use Rattle.checker.specs.JudgedLaws.{Agree}
 use Rattle.checker.specs.PromiseLaws.{accepted-facts, facts-accepted, accepts}
 
 -- files of which the lines are right, with the same hours and totals, are accepted alike
-same-accepted : (file other : List ℕ) (report : Report) → readOf other ≡ Clean report → hoursOf file ≡ hoursOf other → totalsIn file ≡ totalsIn other →
-    (r : Quarter) → numbersOf (checked file) ≡ acceptance r → numbersOf (checked other) ≡ acceptance r
-same-accepted file other report c h t r e =
+same-accepted : (file other : List ℕ) (report : Report) → RightFile other report → hoursOf file ≡ hoursOf other → totalsIn file ≡ totalsIn other →
+    (r : Quarter) → answerNumbers (checked file) ≡ acceptance r → answerNumbers (checked other) ≡ acceptance r
+same-accepted file other report x h t r e =
     let f = accepted-facts file r (accepts (checked file) r e) in
-    ap numbersOf (facts-accepted other r (record {
+    ap answerNumbers (facts-accepted other r (record {
       report = report;
-      clean = c;
+      right = x;
       pass = rw h at (f .pass);
       formed = ap quarterTotals (sym h) ∙ f .formed;
       agree = subst₂ (λ (hs : List Hour) (q : Quarter). Agree (quarterTotals hs) q) h t (f .agree);
@@ -38,6 +37,6 @@ idle-free file other w =
       totals = t;
       without = λ r e.
           let f = accepted-facts file r (accepts (checked file) r e) in
-          same-accepted file other _ (idle-clean file other w (f .report) (f .clean)) (sym h) (sym t) r e;
-      among = λ report c r e. same-accepted other file report c h t r e;
+          same-accepted file other _ (idle-right file other w (f .report) (f .right)) (sym h) (sym t) r e;
+      among = λ report x r e. same-accepted other file report x h t r e;
     }

@@ -5,6 +5,7 @@ use mathlib.Core.List.{List, [], _∷_}
 use mathlib.Core.Bool.{Bool, true, false, false≢true}
 use mathlib.Core.Logic.{_⊎_, inl, inr, ⊎-elim}
 use native.Mathlib.Omega.{arith}
+use native.Mathlib.Nat.{eq-or-lt-of-le}
 use lib.Dec.{eqb, lit≤}
 use borrow.Author.Tests.{eqb-true, eqb-false, eq-eqb}
 use Rattle.exact.specs.Logic.{ranked, All}
@@ -16,7 +17,7 @@ use Rattle.formulas.specs.declared.hour.Quantity.{Quantity}
 use Rattle.formulas.specs.declared.hour.Quantity.the-variants.{Heat, So2, Nox, Co2}
 use Rattle.totals.specs.declared.Quarter.{Quarter}
 use Rattle.exact.specs.Faults.{_orElse_, unless, or-zero, unless-none}
-use Rattle.lines.specs.Shows.{ofLineChecks}
+use Rattle.lines.specs.Clauses.{ofLineChecks}
 use Rattle.reading.specs.Recorded.{hourAt}
 use Rattle.checker.specs.Checked.{refusedAt, quantities, quantityAt, numberFor, typeFor, lineFor, judgedFigures}
 use Rattle.checker.specs.Checked.{judgedHours, Stated, statedTotals, firstDiffering, totalsFault, verdict, comparedTotals}
@@ -97,70 +98,110 @@ quantity-named Co2 = refl
 same-quantity : (p q : Quantity) → numberFor p ≡ numberFor q → p ≡ q
 same-quantity p q e = sym (quantity-named p) ∙ ap (λ (n : ℕ). quantityAt (n - 11)) e ∙ quantity-named q
 
-figures-refused : (qs : List Quantity) (file : List ℕ) (k : ℕ) (h : Hour) (rest : Answer) (q : Quantity) (line : ℕ) →
-    judgedFigures qs file k h rest ≡ refusedAt (numberFor q) line →
-    ((passesTest q h ≡ false) × (line ≡ lineFor file q k)) ⊎ (rest ≡ refusedAt (numberFor q) line)
-unfolding judgedFigures
-figures-refused [] file k h rest q line e = inr e
-figures-refused (p ∷ ps) file k h rest q line e = go (passesTest p h) refl e (figures-refused ps file k h rest q line)
-  where
-    go : (t : Bool) → passesTest p h ≡ t →
-        elim t [ true ↦ judgedFigures ps file k h rest | false ↦ refusedAt (numberFor p) (lineFor file p k) ] ≡ refusedAt (numberFor q) line →
-        (judgedFigures ps file k h rest ≡ refusedAt (numberFor q) line → ((passesTest q h ≡ false) × (line ≡ lineFor file q k)) ⊎ (rest
-        ≡ refusedAt (numberFor q) line)) →
-        ((passesTest q h ≡ false) × (line ≡ lineFor file q k)) ⊎ (rest ≡ refusedAt (numberFor q) line)
-    go true f w ih = ih w
-    go false f w ih =
-        let a = same-number (numberFor p) (lineFor file p k) (numberFor q) line w in
-        let s = same-quantity p q (a .0) in
-        inl (rw s at f, sym (a .1) ∙ ap (λ (x : Quantity). lineFor file x k) s)
-
--- the hour of a figure that fails
-pub record Failing (file : List ℕ) (k : ℕ) (q : Quantity) (line : ℕ) : Type 0 where
-  pub hour : ℕ
-  pub exists : hour < k
-  pub own : line ≡ lineFor file q hour
-  pub fails : passesTest q (hourAt file hour) ≡ false
-
-pub hours-refused : (file : List ℕ) (k left : ℕ) (rest : Answer) (q : Quantity) (line : ℕ) →
-    judgedHours file k (ranked (hourAt file) k left) rest ≡ refusedAt (numberFor q) line →
-    Failing file (k + left) q line ⊎ (rest ≡ refusedAt (numberFor q) line)
-unfolding judgedHours ranked
-hours-refused file k zero rest q line e = inr e
-hours-refused file k (suc left) rest q line e =
-    ⊎-elim
-    (λ f. inl (record { hour = k; exists = omega arith; own = f .1; fails = f .0 }))
-    (λ w.
-    ⊎-elim
-    (λ f. inl (record { hour = f .hour; exists = omega (arith, f .exists); own = f .own; fails = f .fails }))
-    (λ z. inr z)
-    (hours-refused file (suc k) left rest q line w))
-    (figures-refused quantities file k (hourAt file k) (judgedHours file (suc k) (ranked (hourAt file) (suc k) left) rest) q line e)
-
 number-low : (q : Quantity) → numberFor q ≤ 14
 number-low Heat = omega arith
 number-low So2 = omega arith
 number-low Nox = omega arith
 number-low Co2 = omega arith
 
+-- of some figures, those before this one pass
+abbrev Earlier : List Quantity → Quantity → Hour → Type 0
+Earlier [] q h = Unit {0}
+Earlier (p ∷ ps) q h = (p ≡ q) ⊎ ((passesTest p h ≡ true) × Earlier ps q h)
+
+earlier-pass : (q : Quantity) (h : Hour) → Earlier quantities q h → (p : Quantity) → numberFor p < numberFor q → passesTest p h ≡ true
+earlier-pass q h e Heat l = ⊎-elim (λ s. absurd (omega (arith, ap numberFor s))) (λ x. x .0) e
+earlier-pass q h e So2 l =
+    ⊎-elim (λ s. absurd (omega (arith, ap numberFor s))) (λ x. ⊎-elim (λ s. absurd (omega (arith, ap numberFor s))) (λ y. y .0) (x .1)) e
+earlier-pass q h e Nox l =
+    ⊎-elim (λ s. absurd (omega (arith, ap numberFor s))) (λ x. ⊎-elim (λ s. absurd (omega (arith, ap numberFor s)))
+    (λ y. ⊎-elim (λ s. absurd (omega (arith, ap numberFor s))) (λ z. z .0) (y .1)) (x .1)) e
+earlier-pass q h e Co2 l = absurd (omega (arith, number-low q))
+
+-- an hour's figure that fails, those before it passing; or all pass
+abbrev FailsHere : List Quantity → List ℕ → ℕ → Hour → Quantity → ℕ → Type 0
+FailsHere qs file k h q line = (passesTest q h ≡ false) × (line ≡ lineFor file q k) × Earlier qs q h
+
+figures-refused : (qs : List Quantity) (file : List ℕ) (k : ℕ) (h : Hour) (rest : Answer) (q : Quantity) (line : ℕ) →
+    judgedFigures qs file k h rest ≡ refusedAt (numberFor q) line →
+    FailsHere qs file k h q line ⊎ (PassIn qs h × (rest ≡ refusedAt (numberFor q) line))
+unfolding judgedFigures
+figures-refused [] file k h rest q line e = inr (tt, e)
+figures-refused (p ∷ ps) file k h rest q line e = go (passesTest p h) refl e (figures-refused ps file k h rest q line)
+  where
+    go : (t : Bool) → passesTest p h ≡ t →
+        elim t [ true ↦ judgedFigures ps file k h rest | false ↦ refusedAt (numberFor p) (lineFor file p k) ] ≡ refusedAt (numberFor q) line →
+        (judgedFigures ps file k h rest ≡ refusedAt (numberFor q) line → FailsHere ps file k h q line ⊎ (PassIn ps h × (rest
+        ≡ refusedAt (numberFor q) line))) →
+        FailsHere (p ∷ ps) file k h q line ⊎ (((passesTest p h ≡ true) × PassIn ps h) × (rest ≡ refusedAt (numberFor q) line))
+    go true f w ih = ⊎-elim (λ x. inl (x .0, x .1, inr (f, x .2))) (λ x. inr ((f, x .0), x .1)) (ih w)
+    go false f w ih =
+        let a = same-number (numberFor p) (lineFor file p k) (numberFor q) line w in
+        let s = same-quantity p q (a .0) in
+        inl (rw s at f, sym (a .1) ∙ ap (λ (x : Quantity). lineFor file x k) s, inl s)
+
+-- the hour of a figure that fails: the hours before it pass, and its own figures before this one
+pub record Failing (file : List ℕ) (from k : ℕ) (q : Quantity) (line : ℕ) : Type 0 where
+  pub hour : ℕ
+  pub exists : hour < k
+  pub own : line ≡ lineFor file q hour
+  pub fails : passesTest q (hourAt file hour) ≡ false
+  pub earlier : (j : ℕ) → from ≤ j → j < hour → Passes (hourAt file j)
+  pub before : (p : Quantity) → numberFor p < numberFor q → passesTest p (hourAt file hour) ≡ true
+
+pub hours-refused : (file : List ℕ) (k left : ℕ) (rest : Answer) (q : Quantity) (line : ℕ) →
+    judgedHours file k (ranked (hourAt file) k left) rest ≡ refusedAt (numberFor q) line →
+    Failing file k (k + left) q line ⊎ (rest ≡ refusedAt (numberFor q) line)
+unfolding judgedHours ranked
+hours-refused file k zero rest q line e = inr e
+hours-refused file k (suc left) rest q line e =
+    ⊎-elim
+    (λ f.
+    inl (record {
+      hour = k;
+      exists = omega arith;
+      own = f .1;
+      fails = f .0;
+      earlier = λ j a b. absurd (omega arith);
+      before = earlier-pass q (hourAt file k) (f .2);
+    }))
+    (λ w.
+    ⊎-elim
+    (λ f.
+    inl (record {
+      hour = f .hour;
+      exists = omega (arith, f .exists);
+      own = f .own;
+      fails = f .fails;
+      earlier = λ j a b. ⊎-elim (λ z. rw (← z) (all-in (hourAt file k) (w .0))) (λ z. f .earlier j z b) (eq-or-lt-of-le a);
+      before = f .before;
+    }))
+    (λ z. inr z)
+    (hours-refused file (suc k) left rest q line (w .1)))
+    (figures-refused quantities file k (hourAt file k) (judgedHours file (suc k) (ranked (hourAt file) (suc k) left) rest) q line e)
+
 -- a refusal that is not a figure's comes after the hours
 figures-over : (qs : List Quantity) (file : List ℕ) (k : ℕ) (h : Hour) (rest : Answer) (number line : ℕ) → 15 ≤ number →
-    judgedFigures qs file k h rest ≡ refusedAt number line → rest ≡ refusedAt number line
+    judgedFigures qs file k h rest ≡ refusedAt number line → PassIn qs h × (rest ≡ refusedAt number line)
 unfolding judgedFigures
-figures-over [] file k h rest number line b e = e
-figures-over (q ∷ qs) file k h rest number line b e = go (passesTest q h) e (figures-over qs file k h rest number line b)
+figures-over [] file k h rest number line b e = (tt, e)
+figures-over (q ∷ qs) file k h rest number line b e = go (passesTest q h) refl e (figures-over qs file k h rest number line b)
   where
-    go : (t : Bool) → elim t [ true ↦ judgedFigures qs file k h rest | false ↦ refusedAt (numberFor q) (lineFor file q k) ] ≡ refusedAt number line →
-        (judgedFigures qs file k h rest ≡ refusedAt number line → rest ≡ refusedAt number line) → rest ≡ refusedAt number line
-    go true w ih = ih w
-    go false w ih = absurd (omega (arith, number-low q, same-number (numberFor q) (lineFor file q k) number line w .0))
+    go : (t : Bool) → passesTest q h ≡ t →
+        elim t [ true ↦ judgedFigures qs file k h rest | false ↦ refusedAt (numberFor q) (lineFor file q k) ] ≡ refusedAt number line →
+        (judgedFigures qs file k h rest ≡ refusedAt number line → PassIn qs h × (rest ≡ refusedAt number line)) →
+        ((passesTest q h ≡ true) × PassIn qs h) × (rest ≡ refusedAt number line)
+    go true p w ih = let i = ih w in ((p, i .0), i .1)
+    go false p w ih = absurd (omega (arith, number-low q, same-number (numberFor q) (lineFor file q k) number line w .0))
 
 pub hours-over : (file : List ℕ) (k : ℕ) (hs : List Hour) (rest : Answer) (number line : ℕ) → 15 ≤ number →
-    judgedHours file k hs rest ≡ refusedAt number line → rest ≡ refusedAt number line
+    judgedHours file k hs rest ≡ refusedAt number line → AllPass hs × (rest ≡ refusedAt number line)
 unfolding judgedHours
-hours-over file k [] rest number line b e = e
+hours-over file k [] rest number line b e = (tt, e)
 hours-over file k (h ∷ hs) rest number line b e =
-    hours-over file (suc k) hs rest number line b (figures-over quantities file k h (judgedHours file (suc k) hs rest) number line b e)
+    let f = figures-over quantities file k h (judgedHours file (suc k) hs rest) number line b e in
+    let i = hours-over file (suc k) hs rest number line b (f .1) in
+    ((all-in h (f .0), i .0), i .1)
 
 -- the totals: accepted where all agree, with the totals formed; never refused with a figure's number
 abbrev pub Agree : Quarter → Quarter → Type 0

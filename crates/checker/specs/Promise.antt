@@ -21,13 +21,12 @@ use Rattle.formulas.specs.declared.hour.Hour.{Hour}
 use Rattle.formulas.specs.declared.hour.Quantity.{Quantity}
 use Rattle.formulas.specs.declared.hour.Quantity.the-variants.{Heat, So2, Nox, Co2}
 use Rattle.totals.specs.declared.Quarter.{Quarter}
-use Rattle.reading.specs.Reading.{readOf}
 use Rattle.lines.specs.Lines.{lines}
 use Rattle.lines.specs.LineFaults.{typeIs, operates}
 use Rattle.reading.specs.Recorded.{Line, linesWith, recordAt, hourCount, hourAt, hoursOf, totalsIn}
-use Rattle.reading.specs.declared.Reading.the-variants.{Clean}
+use Rattle.reading.specs.RightFile.{RightFile}
 use Rattle.reading.specs.declared.Report.{Report}
-use Rattle.checker.specs.Checked.{Stated, statedTotals, acceptance, refusal, numbersOf, numberFor, lineFor}
+use Rattle.checker.specs.Checked.{Stated, statedTotals, acceptance, refusal, answerNumbers, numberFor, typeFor}
 use Rattle.checker.specs.declared.Answer.{Answer}
 
 -- a list lies behind a quantity's hourly figures: one pair of readings, or a gas hour's heat, for each hour, in order, each behind
@@ -48,7 +47,7 @@ SetsBehind (h ∷ hs) (s ∷ ss) = ((q : Quantity) → LiesBehind q h (entryOf q
 -- "honestly rounded from" (the paper)
 pub record HonestlyRounded (file : List ℕ) (sets : List Unrounded) : Type 0 where
   pub report : Report
-  pub clean : readOf file ≡ Clean report
+  pub right : RightFile file report
   pub behind : SetsBehind (hoursOf file) sets
   pub totals : totalsIn file ≡ quarterTotals (hoursOf file)
 
@@ -93,11 +92,14 @@ operatingLines file = linesWith (λ l. typeIs Operation l && operates l) 1 (line
 -- a figure of the file behind which nothing lies, on its line
 pub record FailsAt (file : List ℕ) (q : Quantity) (line : ℕ) : Type 0 where
   pub report : Report
-  pub clean : readOf file ≡ Clean report
+  pub right : RightFile file report
   pub hour : ℕ
   pub exists : hour < hourCount file
-  pub own : line ≡ lineFor file q hour
+  pub own : line ≡ recordAt file (typeFor q) hour .number
   pub nothing : (e : Entry q) → LiesBehind q (hourAt file hour) e → ⊥
+  -- it is the first: readings lie behind every figure of the hours before, and behind those of its hour with a lesser number
+  pub earlier : (k : ℕ) → k < hour → (p : Quantity) → (e : Entry p) × LiesBehind p (hourAt file k) e
+  pub before : (p : Quantity) → numberFor p < numberFor q → (e : Entry p) × LiesBehind p (hourAt file hour) e
 
 -- of some totals, left to right, the first that differs from the one formed is that of this number
 abbrev pub FirstDiffers : List Stated → (formed said : Quarter) → ℕ → Type 0
@@ -108,20 +110,24 @@ FirstDiffers (t ∷ ts) formed said number =
 -- line 301 states another total than the one formed, and those before it as they are formed
 pub record DiffersAt (file : List ℕ) (number line : ℕ) : Type 0 where
   pub report : Report
-  pub clean : readOf file ≡ Clean report
+  pub right : RightFile file report
   pub own : line ≡ recordAt file QuarterTotals 0 .number
+  -- readings lie behind every figure
+  pub behind : (q : Quantity) → (es : List (Entry q)) × LieBehind q (hoursOf file) es
   pub first : FirstDiffers statedTotals (quarterTotals (hoursOf file)) (totalsIn file) number
 
 pub record Promise (file : List ℕ) (answer : Answer) : Type 0 where
-  pub honest : (sets : List Unrounded) → HonestlyRounded file sets → (r : Quarter) × (numbersOf answer ≡ acceptance r)
-  pub behind : (r : Quarter) → numbersOf answer ≡ acceptance r → (q : Quantity) → (es : List (Entry q)) × LieBehind q (hoursOf file) es
-  pub bounds : (r : Quarter) → numbersOf answer ≡ acceptance r → (q : Quantity) (es : List (Entry q)) → LieBehind q (hoursOf file) es →
+  pub honest : (sets : List Unrounded) → HonestlyRounded file sets → (r : Quarter) × (answerNumbers answer ≡ acceptance r)
+  pub behind : (r : Quarter) → answerNumbers answer ≡ acceptance r → (q : Quantity) → (es : List (Entry q)) × LieBehind q (hoursOf file) es
+  pub bounds : (r : Quarter) → answerNumbers answer ≡ acceptance r → (q : Quantity) (es : List (Entry q)) → LieBehind q (hoursOf file) es →
       Near (exactAmount q (hoursOf file) es) (reported q r) (allowed q (r .hours))
   -- NOx tons are of recorded figures: no hour has a share in the bound
-  pub mass : (r : Quarter) → numbersOf answer ≡ acceptance r → Near (massTons (hoursOf file)) (recorded tenth (r .«nox_tons»)) (fraction 1 20 (lit< tt))
-  pub rightly : (q : Quantity) (line : ℕ) → numbersOf answer ≡ refusal (numberFor q) line → FailsAt file q line
-  pub differs : All (λ (t : Stated). (line : ℕ) → numbersOf answer ≡ refusal (t .number) line → DiffersAt file (t .number) line) statedTotals
-  pub count : (r : Quarter) → numbersOf answer ≡ acceptance r → r .hours ≡ hourCount file
-  pub operating : (r : Quarter) → numbersOf answer ≡ acceptance r → r .hours ≡ length (operatingLines file)
-  pub formed : (r : Quarter) → numbersOf answer ≡ acceptance r → r ≡ quarterTotals (hoursOf file)
-  pub totals : (r : Quarter) → numbersOf answer ≡ acceptance r → r ≡ totalsIn file
+  pub mass : (r : Quarter) → answerNumbers answer ≡ acceptance r → Near (massTons (hoursOf file)) (recorded tenth (r .«nox_tons»)) (fraction 1 20 (lit< tt))
+  pub rightly : (q : Quantity) (line : ℕ) → answerNumbers answer ≡ refusal (numberFor q) line → FailsAt file q line
+  pub differs : All (λ (t : Stated). (line : ℕ) → answerNumbers answer ≡ refusal (t .number) line → DiffersAt file (t .number) line) statedTotals
+  pub count : (r : Quarter) → answerNumbers answer ≡ acceptance r → r .hours ≡ hourCount file
+  pub operating : (r : Quarter) → answerNumbers answer ≡ acceptance r → r .hours ≡ length (operatingLines file)
+  pub formed : (r : Quarter) → answerNumbers answer ≡ acceptance r → r ≡ quarterTotals (hoursOf file)
+  pub totals : (r : Quarter) → answerNumbers answer ≡ acceptance r → r ≡ totalsIn file
+  -- the lines of an accepted file are right, as the paper has them
+  pub lines : (r : Quarter) → answerNumbers answer ≡ acceptance r → (report : Report) × RightFile file report

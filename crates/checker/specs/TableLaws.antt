@@ -20,12 +20,13 @@ use Rattle.reading.specs.Reading.{readOf}
 use Rattle.reading.specs.Recorded.{HasRecord, hoursOf, totalsIn}
 use Rattle.reading.specs.RecordedLaws.{has-record}
 use Rattle.reading.specs.CleanFile.{clean-file}
+use Rattle.reading.specs.RightFileLaws.{read-right}
 use Rattle.reading.specs.Places.{Standing}
 use Rattle.reading.specs.RecordLaws.{records-standing, hours-standing}
-use Rattle.reading.specs.RefusalLaws.{refused-shows, refuses-number}
+use Rattle.reading.specs.RefusedLaws.{refused-by, refused-number}
 use Rattle.reading.specs.declared.Reading.{Reading}
 use Rattle.reading.specs.declared.Reading.the-variants.{Clean, Refused as Stopped}
-use Rattle.checker.specs.Checked.{Stated, statedTotals, refusal, numbersOf, refusedAt, quantities, numberFor, typeFor, lineFor, judgedFigures}
+use Rattle.checker.specs.Checked.{Stated, statedTotals, refusal, answerNumbers, refusedAt, quantities, numberFor, typeFor, lineFor, judgedFigures}
 use Rattle.checker.specs.Checked.{judgedHours, firstDiffering, totalsFault, verdict, comparedTotals, judged, afterReading, checked}
 use Rattle.checker.specs.JudgedLaws.{figure-hourly}
 use Rattle.checker.specs.PromiseLaws.{hours-count}
@@ -35,7 +36,7 @@ use Rattle.checker.specs.declared.Answer.{Answer}
 
 module _ (file : List ℕ) where
   abbrev Listed : Answer → Type 0
-  Listed answer = InTable file (numbersOf answer)
+  Listed answer = InTable file (answerNumbers answer)
 
   -- the figures of hour k have lines of their types
   abbrev HasFigures : ℕ → Type 0
@@ -94,13 +95,13 @@ module _ (file : List ℕ) where
       (totals-listed _ (quarterTotals (hoursOf file)) (totalsIn file)
       (has-record file QuarterTotals 0 (omega (arith, records-standing file s d QuarterTotals))))
 
-  pub in-table : InTable file (numbersOf (checked file))
+  pub in-table : InTable file (answerNumbers (checked file))
   unfolding checked afterReading
   in-table = go (readOf file) refl
     where
       go : (x : Reading) → readOf file ≡ x → Listed (afterReading file x)
-      go (Clean report) e = judged-listed (report .shape) (clean-file file report e .standing)
-      go (Stopped r) e = ofLines (r .number) (r .line) (refused-shows file r e)
+      go (Clean report) e = judged-listed (report .shape) (clean-file file report (read-right file report e) .standing)
+      go (Stopped r) e = ofLines (r .number) (r .line) (refused-by file r e)
 
 -- of two numbers, which are a refusal, the first is the table's
 abbrev InRanges : List ℕ → Type 0
@@ -117,9 +118,9 @@ figure-number Co2 = refl
 
 table-ranges : {file answer : List ℕ} → InTable file answer → InRanges answer
 table-ranges (accepted r) = tt
-table-ranges (ofLines number line r) = rw (refuses-number r)
+table-ranges (ofLines number line r) = rw (refused-number r)
 table-ranges (ofFigure q line h) = figure-number q
 table-ranges (ofTotal t line m h) = all-member (λ t. ofCheck (t .number) ≡ true) statedTotals t (refl, (refl, (refl, (refl, (refl, tt))))) m
 
-pub table-numbers : (file : List ℕ) (number line : ℕ) → numbersOf (checked file) ≡ refusal number line → ofCheck number ≡ true
+pub table-numbers : (file : List ℕ) (number line : ℕ) → answerNumbers (checked file) ≡ refusal number line → ofCheck number ≡ true
 table-numbers file number line e = table-ranges (rw e at (in-table file))

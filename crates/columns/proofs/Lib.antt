@@ -2,3 +2,4 @@
 pub mod Blocks
 pub mod Reading
 pub mod Examples
+pub mod Lows

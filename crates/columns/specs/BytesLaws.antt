@@ -1,12 +1,12 @@
 -- Laws of tests over lists of bytes.
-use Prim.Native.Nat.{ℕ, zero, suc, _≤_, _<_}
+use Prim.Native.Nat.{ℕ, zero, suc, _≤_}
 use mathlib.Core.Path.{_≡_, refl}
 use mathlib.Core.Logic.{_↔_}
 use mathlib.Core.List.{List, [], _∷_, _++_}
 use mathlib.Core.Bool.{Bool, true, false, _&&_}
 use native.Mathlib.Omega.{arith}
 use lib.Dec.{eqb, leb}
-use lib.ListN.{length, take, drop, getD}
+use lib.ListN.{take, drop}
 use borrow.Author.Tests.{eq-eqb, eqb-true, le-leb, leb-true}
 use Rattle.columns.specs.Bytes.{isDigit, isPrintable, all, same}
 
@@ -69,18 +69,6 @@ module _ (p : ℕ → Bool) where
   all-drop zero l h = h
   all-drop (suc n) [] h = h
   all-drop (suc n) (x ∷ xs) h = all-drop n xs (all-tail x xs h)
-
-  -- a byte at which the test fails
-  pub all-false : (l : List ℕ) → all p l ≡ false → (i : ℕ) × (i < length l) × (p (getD l i 0) ≡ false)
-  unfolding all
-  all-false [] h = absurd (let z : _≡_ {A = ℕ} 0 1 = cc in omega arith)
-  all-false (x ∷ xs) h = go (p x) refl h (all-false xs)
-    where
-      go : (t : Bool) → p x ≡ t → elim t [ true ↦ all p xs | false ↦ false ] ≡ false →
-          (all p xs ≡ false → (i : ℕ) × (i < length xs) × (p (getD xs i 0) ≡ false)) →
-          (i : ℕ) × (i < suc (length xs)) × (p (getD (x ∷ xs) i 0) ≡ false)
-      go true e k ih = let r = ih k in (suc (r .0), omega (arith, r .1), r .2)
-      go false e k ih = (0, omega arith, e)
 
 -- a weaker test
 pub all-weaken : (p q : ℕ → Bool) → ((b : ℕ) → p b ≡ true → q b ≡ true) → (l : List ℕ) → all p l ≡ true → all q l ≡ true

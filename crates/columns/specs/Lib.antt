@@ -7,5 +7,10 @@ pub mod Rewritten
 pub mod BytesLaws
 pub mod ColumnsLaws
 pub mod NumberLaws
+pub mod Format
+pub mod EachLaws
+pub mod FormatLaws
 pub mod WrittenLaws
 pub mod RewrittenLaws
+pub mod Worth
+pub mod WorthLaws

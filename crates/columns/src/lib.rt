@@ -5,6 +5,7 @@ ghost use lib.ListN.{length};
 ghost use Rattle.columns.specs.Bytes.{isBlank, isPrintable, all, same};
 ghost use Rattle.columns.specs.Columns.{Inside, columns};
 ghost use Rattle.columns.specs.Number.{digitsFrom, digitsOnly, wholeOf, fixedOf, fieldOf, numberOf, digitsHeld};
+ghost use Rattle.columns.specs.Worth.{lowFrom, fixedWorth, worthOf};
 
 // What a field of columns holds.
 pub enum Field {
@@ -167,4 +168,42 @@ pub fn read_digits(line: &[u8], start: usize, width: usize) -> Field
 {
     let from = start - 1;
     digits_behind(0, &line[from..from + width])
+}
+
+// What bytes are worth as digits, each by its low four bits, behind digits worth `before`: a blank counts as 0.
+fn low_digits(before: u64, bytes: &[u8]) -> u64
+    requires { ⌜ (before + 2) * 10 ^ length (now bytes) ≤ 2 * 10 ^ 18 ⌝ }
+    ensures { λ r. ⌜ (r ≡ lowFrom before (now (bytes .entry))) × (r + 2 ≤ (before + 2) * 10 ^ length (now (bytes .entry))) ⌝ }
+{
+    let mut value = before;
+    let mut i = 0;
+    while i < bytes.len() {
+        value = value * 10 + (bytes[i] % 16) as u64;
+        i += 1;
+    }
+    value
+}
+
+// The same of a field with decimals: the point is passed over.
+fn fixed_worth(bytes: &[u8], decimals: usize) -> u64
+    requires { ⌜ (decimals < length (now bytes)) × (length (now bytes) ≤ 18) ⌝ }
+    ensures { λ r. ⌜ r ≡ fixedWorth decimals (now (bytes .entry)) ⌝ }
+{
+    let point = bytes.len() - 1 - decimals;
+    let whole = low_digits(0, &bytes[..point]);
+    low_digits(whole, &bytes[point + 1..])
+}
+
+// The number in a field that holds one, or nothing: no byte decides what is done with the next.
+pub fn worth(line: &[u8], start: usize, width: usize, decimals: usize) -> u64
+    requires { ⌜ Inside start width (now line) ⌝ }
+    requires { ⌜ (decimals < width) × (width ≤ 18) ⌝ }
+    ensures { λ r. ⌜ r ≡ worthOf decimals (columns start width (now (line .entry))) ⌝ }
+{
+    let from = start - 1;
+    let field = &line[from..from + width];
+    if decimals == 0 {
+        return low_digits(0, field);
+    }
+    fixed_worth(field, decimals)
 }

@@ -10,7 +10,7 @@ use lib.Ieee.{Float}
 use borrow.Author.Tests.{eqb-true, ltb-false, not-false}
 use Rattle.exact.specs.Logic.{neither}
 use Rattle.columns.specs.Bytes.{all}
-use Rattle.recorder.specs.Recording.{numbersOf, recordedOf}
+use Rattle.recorder.specs.Recording.{recorderNumbers, recordedOf}
 use Rattle.recorder.specs.declared.RecorderReading.{RecorderReading}
 use Rattle.recorder.specs.declared.RecorderReading.the-variants.{Absent}
 use Rattle.recorder.specs.declared.RecorderHour.{RecorderHour}
@@ -94,11 +94,11 @@ module _ (states : List ℕ) (readings : List Float) (buffer : List ℕ) where
     unfolding recorderCode recorderFilled store
     words k w e =
         let room = right-lengths states readings buffer long .room in
-        (rw (right k, recorderCode, e), rw (right k, recorderFilled, e) (stored (numbersOf (Words w)) buffer room))
+        (rw (right k, recorderCode, e), rw (right k, recorderFilled, e) (stored (recorderNumbers (Words w)) buffer room))
 
     pub refused : knownStates states ≡ true → (number : ℕ) → recordedOf (hourIn states readings) ≡ Refused number →
         (0 ≡ recorderCode states readings buffer) × (set buffer 0 number ≡ recorderFilled states readings buffer)
     unfolding recorderCode recorderFilled store
     refused k number e =
         let room = right-lengths states readings buffer long .room in
-        (rw (right k, recorderCode, e), rw (right k, recorderFilled, e) (stored (numbersOf (Refused number)) buffer (omega arith)))
+        (rw (right k, recorderCode, e), rw (right k, recorderFilled, e) (stored (recorderNumbers (Refused number)) buffer (omega arith)))

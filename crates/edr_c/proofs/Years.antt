@@ -7,7 +7,7 @@ use native.Mathlib.Omega.{arith}
 use lib.ListN.{length, set}
 use borrow.Author.Tests.{ltb-false}
 use Rattle.exact.specs.Logic.{neither}
-use Rattle.annual.specs.Joined.{joinedOf, numbersOf}
+use Rattle.annual.specs.Joined.{joinedOf, yearNumbers}
 use Rattle.annual.specs.declared.YearToDate.{YearToDate}
 use Rattle.annual.specs.declared.Joined.the-variants.{Record, Refused}
 use Rattle.edr_c.specs.Boundary.{answerLength, yearLength, quarterIn, yearIn, tooShort, yearCode, yearFilled}
@@ -37,11 +37,11 @@ module _ (previous answer : List ℕ) (year quarter : ℕ) (buffer : List ℕ) w
         ≡ yearFilled previous answer year quarter buffer)
     unfolding yearCode yearFilled store
     joined y e =
-        (rw (long, yearCode, e), rw (long, yearFilled, e) (stored (numbersOf (Record y)) buffer (long-enough previous answer buffer long .room)))
+        (rw (long, yearCode, e), rw (long, yearFilled, e) (stored (yearNumbers (Record y)) buffer (long-enough previous answer buffer long .room)))
 
     pub refused : (number : ℕ) → joinedOf (yearIn previous) year quarter (quarterIn answer) ≡ Refused number →
         (0 ≡ yearCode previous answer year quarter buffer) × (set buffer 0 number ≡ yearFilled previous answer year quarter buffer)
     unfolding yearCode yearFilled store
     refused number e =
         let room = long-enough previous answer buffer long .room in
-        (rw (long, yearCode, e), rw (long, yearFilled, e) (stored (numbersOf (Refused number)) buffer (omega arith)))
+        (rw (long, yearCode, e), rw (long, yearFilled, e) (stored (yearNumbers (Refused number)) buffer (omega arith)))

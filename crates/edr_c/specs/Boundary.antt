@@ -5,11 +5,11 @@ use mathlib.Core.Bool.{Bool, true, false, _||_}
 use lib.Dec.{eqb, ltb}
 use lib.ListN.{length, getD, drop}
 use Rattle.layout.specs.Layout.{stackWidth}
-use Rattle.checker.specs.Checked.{numbersOf, checked}
+use Rattle.checker.specs.Checked.{answerNumbers, checked}
 use Rattle.checker.specs.declared.Answer.{Answer}
 use Rattle.checker.specs.declared.Answer.the-variants.{Accepted, Refused}
 use Rattle.totals.specs.declared.Quarter.{Quarter}
-use Rattle.annual.specs.Joined.{joinedOf, numbersOf as yearNumbers}
+use Rattle.annual.specs.Joined.{joinedOf, yearNumbers}
 use Rattle.annual.specs.declared.YearToDate.{YearToDate}
 use Rattle.annual.specs.declared.Joined.{Joined}
 use Rattle.annual.specs.declared.Joined.the-variants.{Record, Refused as NotJoined}
@@ -31,7 +31,7 @@ unfoldable pub checkCode : List ℕ → List ℕ → ℕ
 checkCode file buffer = elim (ltb (length buffer) answerLength) [ true ↦ 2 | false ↦ answerCode (checked file) ]
 
 unfoldable pub checkFilled : List ℕ → List ℕ → List ℕ
-checkFilled file buffer = elim (ltb (length buffer) answerLength) [ true ↦ buffer | false ↦ filled (numbersOf (checked file)) buffer ]
+checkFilled file buffer = elim (ltb (length buffer) answerLength) [ true ↦ buffer | false ↦ filled (answerNumbers (checked file)) buffer ]
 
 unfoldable pub writeCode : ℕ → ℕ → List ℕ → List ℕ → List ℕ → ℕ
 writeCode year quarter name sheet buffer =

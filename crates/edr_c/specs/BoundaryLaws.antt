@@ -4,7 +4,7 @@ use mathlib.Core.Path.{_≡_, refl}
 use mathlib.Core.List.{List}
 use Rattle.totals.specs.declared.Quarter.{Quarter}
 use Rattle.checker.specs.Checked.{acceptance}
-use Rattle.annual.specs.Joined.{numbersOf}
+use Rattle.annual.specs.Joined.{yearNumbers}
 use Rattle.annual.specs.declared.YearToDate.{YearToDate}
 use Rattle.annual.specs.declared.Joined.the-variants.{Record}
 use Rattle.edr_c.specs.Boundary.{filled, quarterIn, yearIn}
@@ -12,5 +12,5 @@ use Rattle.edr_c.specs.Boundary.{filled, quarterIn, yearIn}
 pub answer-read : (r : Quarter) (buffer : List ℕ) → quarterIn (filled (acceptance r) buffer) ≡ r
 answer-read r buffer = refl
 
-pub record-read : (y : YearToDate) (buffer : List ℕ) → yearIn (filled (numbersOf (Record y)) buffer) ≡ y
+pub record-read : (y : YearToDate) (buffer : List ℕ) → yearIn (filled (yearNumbers (Record y)) buffer) ≡ y
 record-read y buffer = refl

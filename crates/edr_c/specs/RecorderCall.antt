@@ -6,7 +6,7 @@ use lib.Dec.{eqb, leb, ltb}
 use lib.ListN.{length, getD}
 use lib.Ieee.{Float, nan}
 use Rattle.columns.specs.Bytes.{all}
-use Rattle.recorder.specs.Recording.{numbersOf, recordedOf}
+use Rattle.recorder.specs.Recording.{recorderNumbers, recordedOf}
 use Rattle.recorder.specs.declared.RecorderReading.{RecorderReading}
 use Rattle.recorder.specs.declared.RecorderReading.the-variants.{Measured, Substituted, Absent}
 use Rattle.recorder.specs.declared.RecorderHour.{RecorderHour}
@@ -55,4 +55,4 @@ recorderCode states readings buffer =
 
 unfoldable pub recorderFilled : List ℕ → List Float → List ℕ → List ℕ
 recorderFilled states readings buffer =
-    elim (wrongForm states readings buffer) [ true ↦ buffer | false ↦ filled (numbersOf (recordedOf (hourIn states readings))) buffer ]
+    elim (wrongForm states readings buffer) [ true ↦ buffer | false ↦ filled (recorderNumbers (recordedOf (hourIn states readings))) buffer ]

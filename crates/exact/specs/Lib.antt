@@ -1,5 +1,7 @@
 pub mod Logic
 pub mod Faults
+pub mod Clauses
+pub mod ClauseLaws
 pub mod Fraction
 pub mod FractionLaws
 pub mod Rounding

@@ -1,8 +1,8 @@
--- Small logic for the crates above: two tests joined, lists by the rank of their members, a statement of every member.
-use mathlib.Core.Path.{_≡_, refl, sym, ap}
+-- Small logic for the crates above: two tests joined, lists by the rank of their members, a test of every rank, a statement of every member.
+use mathlib.Core.Path.{_≡_, refl, sym, ap, _∙_}
 use mathlib.Core.Bool.{Bool, true, false, cond, not, _&&_, _||_, true-and, false-and, true≢false, false≢true}
 use mathlib.Core.Logic.{⊎-elim}
-use mathlib.Core.List.{List, [], _∷_, map, List·Memᴰ, List·Memᴰ·not-nil, List·Memᴰ·cases-cons}
+use mathlib.Core.List.{List, [], _∷_, _++_, map, List·Memᴰ, List·Memᴰ·not-nil, List·Memᴰ·cases-cons}
 use Prim.Native.Nat.{ℕ, zero, suc, _+_, _-_, _≤_, _<_}
 use native.Mathlib.Nat.{le-of-suc-le-suc, not-suc-le-zero}
 use native.Mathlib.Omega.{arith}
@@ -50,6 +50,33 @@ module _ {A : Type 0} (f : ℕ → A) where
   pub ranked-whole : (n : ℕ) → ranked f 0 (n - 0) ≡ ranked f 0 n
   ranked-whole n = let e : n - 0 ≡ n = omega arith in rw e
 
+-- a test of every rank, tried one after the other: of so many from rank k on
+module _ (f : ℕ → Bool) (t : (k left : ℕ) → Bool) (none : (k : ℕ) → t k 0 ≡ true) (next : (k left : ℕ) → t k (suc left) ≡ (f k && t (suc k) left)) where
+  counted-from : (k left j : ℕ) → t k left ≡ true → j < left → f (k + j) ≡ true
+  counted-from k zero j e h = absurd (omega arith)
+  counted-from k (suc left) zero e h =
+      let z : k + 0 ≡ k = omega arith in
+      rw z (both (f k) (t (suc k) left) (sym (next k left) ∙ e) .0)
+  counted-from k (suc left) (suc j) e h =
+      let s : k + suc j ≡ suc k + j = omega arith in
+      rw s (counted-from (suc k) left j (both (f k) (t (suc k) left) (sym (next k left) ∙ e) .1) (omega arith))
+
+  from-counted : (k left : ℕ) → ((j : ℕ) → j < left → f (k + j) ≡ true) → t k left ≡ true
+  from-counted k zero each = none k
+  from-counted k (suc left) each =
+      let z : k + 0 ≡ k = omega arith in
+      let first : f k ≡ true = rw z at (each 0 (omega arith)) in
+      let later : (j : ℕ) → j < left → f (suc k + j) ≡ true =
+      λ j h. let s : k + suc j ≡ suc k + j = omega arith in rw s at (each (suc j) (omega arith)) in
+      next k left ∙ rw (first, from-counted (suc k) left later)
+
+  -- of all below n
+  pub counted-each : (n : ℕ) → t 0 n ≡ true → (j : ℕ) → j < n → f j ≡ true
+  counted-each n e j h = let z : 0 + j ≡ j = omega arith in rw z at (counted-from 0 n j e h)
+
+  pub each-counted : (n : ℕ) → ((j : ℕ) → j < n → f j ≡ true) → t 0 n ≡ true
+  each-counted n each = from-counted 0 n (λ j h. let z : 0 + j ≡ j = omega arith in rw z (each j h))
+
 -- a statement of every member of a list
 abbrev pub All : {A : Type 0} → (A → Type 0) → List A → Type 0
 All P [] = Unit {0}
@@ -63,6 +90,10 @@ pub ranked-all : {A : Type 0} (P : A → Type 0) (f : ℕ → A) (n k left : ℕ
 unfolding ranked
 ranked-all P f n k zero w h = tt
 ranked-all P f n k (suc left) w h = (w k (omega arith), ranked-all P f n (suc k) left w (omega arith))
+
+pub all-parts : {A : Type 0} (P : A → Type 0) (xs ys : List A) → All P (xs ++ ys) → All P xs × All P ys
+all-parts P [] ys a = (tt, a)
+all-parts P (x ∷ xs) ys a = let i = all-parts P xs ys (a .1) in ((a .0, i .0), i .1)
 
 -- the member of rank k
 pub all-at : {A : Type 0} (P : A → Type 0) (xs : List A) (none : A) (k : ℕ) → All P xs → k < length xs → P (getD xs k none)

@@ -10,11 +10,11 @@ use lib.Dec.{lit<}
 use Rattle.exact.specs.Fraction.{Fraction, Positive, _⊗_, plain, whole}
 use Rattle.exact.specs.FractionLaws.{quotient}
 use Rattle.exact.specs.Rounding.{Span, In, Records, recorded, span, lowEnd}
-use Rattle.exact.specs.RoundingLaws.{records-recorded, records-rounded}
+use Rattle.exact.specs.RoundingLaws.{records-halfUp, records-recorded, records-rounded}
 use Rattle.exact.specs.ScaleLaw.{scale-law}
 use Rattle.exact.specs.ProductLaw.{product-law}
 use Rattle.exact.specs.QuotientLaw.{recorded-divisors, quotient-law}
-use Rattle.layout.specs.Layout.{Within, flowScfh, thousandsOf}
+use Rattle.layout.specs.Values.{Within, flowScfh, thousandsOf}
 use Rattle.formulas.specs.Hour.{tenth, thousandth, flowUnit, unitOf, figureOf, ReadingsWithin, Monitored, setOf, asRecorded}
 use Rattle.formulas.specs.Formulas.{UnitCount, Equation, equationOf, gasFactor, Pair, monitored, fromHeat, Entry, entryOf, equationValue}
 use Rattle.formulas.specs.Formulas.{exactValue, PairRounds, RoundsTo, LiesBehind, spanOf, equationMeets, readingsMeet, gasMeets, passesTest}
@@ -154,6 +154,11 @@ recorded-value Heat r = refl
 recorded-value So2 r = refl
 recorded-value Nox r = refl
 recorded-value Co2 r = refl
+
+-- a figure is written that the formula of the recorded readings is recorded as, and there is no other
+pub written-records : (q : Quantity) (r : Readings) (figure : ℕ) →
+    Records (unitOf q) (exactValue q r (entryOf q (setOf (asRecorded r)))) figure ↔ (roundedValue q r ≡ figure)
+written-records q r figure = rw (recorded-value q r) (records-halfUp (unitOf q) (exactValue q r (entryOf q (setOf (asRecorded r)))) figure)
 
 figure-by : (q : Quantity) (figure : Quantity → ℕ) → figureOf q (figuresBy figure) ≡ figure q
 figure-by Heat figure = refl

@@ -5,7 +5,7 @@ use lib.Dec.{lit<}
 use Rattle.exact.specs.Logic.{All}
 use Rattle.exact.specs.Fraction.{Fraction, Positive}
 use Rattle.exact.specs.Rounding.{recorded}
-use Rattle.layout.specs.Layout.{Within, so2Ppm, noxPpm, co2Percent, flowScfh, scfhOf, fFactor, timeHours, heatRate, so2Rate, noxRate, co2Rate}
+use Rattle.layout.specs.Values.{Within, so2Ppm, noxPpm, co2Percent, flowScfh, scfhOf, fFactor, timeHours, heatRate, so2Rate, noxRate, co2Rate}
 use Rattle.formulas.specs.declared.hour.Readings.{Readings}
 use Rattle.formulas.specs.declared.hour.Figures.{Figures}
 use Rattle.formulas.specs.declared.hour.Hour.{Hour}

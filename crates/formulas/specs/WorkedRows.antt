@@ -1,4 +1,4 @@
--- The paper's "Hours to try", the rows marked ◆, four more, and gas hours: figures that pass and figures just outside, in one table and one fact.
+-- The paper's "Hours to try", the rows marked ◆, five more, and gas hours: figures that pass and figures just outside, in one table and one fact.
 use mathlib.Core.Path.{_≡_, refl}
 use mathlib.Core.Bool.{Bool, true, false, not, _&&_}
 use mathlib.Core.List.{List, [], _∷_}
@@ -59,6 +59,8 @@ workedRows =
     ∷ record { quantity = So2; hour = measured 99_999 0 1 1000 5000; pass = 16_591 ∷ 16_608 ∷ []; outside = 16_590 ∷ 16_609 ∷ [] }
     -- the same flow, for CO2
     ∷ record { quantity = Co2; hour = measured 0 0 1000 1000 5000; pass = 569 ∷ 571 ∷ []; outside = 568 ∷ 572 ∷ [] }
+    -- the narrowest span of NOx: 1.195 for 1.194 would not pass
+    ∷ record { quantity = Nox; hour = measured 0 99_999 1000 0 30_000; pass = 3580 ∷ 3584 ∷ []; outside = 3579 ∷ 3585 ∷ [] }
     -- a flow recorded as 0 is up to 500 scfh
     ∷ record { quantity = So2; hour = measured 99_999 0 1 0 5000; pass = 0 ∷ 8 ∷ []; outside = 9 ∷ [] }
     -- values that end at 0.15, which none reaches, so that 0.2 fails; values that start at 0.05, so that 0.0 fails

@@ -1,12 +1,12 @@
 -- The records of a report: one row a type, and their order. Everything else is derived from the two. Columns count from 1.
-use Prim.Native.Nat.{ℕ, suc, _+_, _*_, _-_, _/_, _%_, _≤_, _^_}
-use mathlib.Core.Path.{_≡_}
-use mathlib.Core.Bool.{Bool, true, false, cond, _&&_}
-use mathlib.Core.List.{List, [], _∷_}
-use lib.Dec.{eqb, leb}
+use Prim.Native.Nat.{ℕ, suc, _+_, _*_, _-_, _≤_, _<_}
+use mathlib.Core.Bool.{Bool, true, false, cond}
+use mathlib.Core.List.{List, [], _∷_, _++_}
+use lib.Dec.{eqb}
 use lib.ListN.{length, getD, take, drop}
 use Rattle.calendar.specs.Calendar.{mostHours}
 use Rattle.exact.specs.Sums.{totalOf}
+use Rattle.columns.specs.Number.{fewestColumns}
 use Rattle.columns.specs.Written.{digitsOf}
 use Rattle.layout.specs.declared.RecordType.{RecordType}
 use Rattle.layout.specs.declared.RecordType.the-variants.{Facility, So2Concentration, NoxConcentration, Co2Concentration, VolumetricFlow}
@@ -17,14 +17,8 @@ use Rattle.layout.specs.declared.Run.{Run}
 use Rattle.layout.specs.declared.Run.the-variants.{Once, Hourly, Listed}
 use Rattle.layout.specs.declared.Row.{Row}
 use Rattle.layout.specs.declared.Front.{Front}
-
--- a number of a range that is a multiple of a step, and any number of a range
-abbrev pub steppedValue : (start width decimals least most step : ℕ) → Value
-steppedValue start width decimals least most step =
-    record { start = start; width = width; decimals = decimals; least = least; most = most; step = step }
-
-abbrev pub rangedValue : (start width decimals least most : ℕ) → Value
-rangedValue start width decimals least most = steppedValue start width decimals least most 1
+use Rattle.layout.specs.Values.{noValue, so2Ppm, noxPpm, co2Percent, flowScfh, timeHours, heatRate, so2Tons, co2Tons, heatTotal, noxMean, noxTons}
+use Rattle.layout.specs.Values.{so2Rate, fFactor, noxRate, co2Rate}
 
 -- every line has its type and its stack name
 
@@ -44,69 +38,6 @@ stackWidth = 6
 abbrev pub dateWidth : ℕ
 dateWidth = 8
 
--- line 100, digits only
-
-abbrev pub yearDigits : Value
-yearDigits = rangedValue 10 4 0 1995 2094
-
-abbrev pub quarterDigit : Value
-quarterDigit = rangedValue 14 1 0 1 4
-
--- a number with decimals that may be anything its columns hold: all of them but the point's
-abbrev pub anyDecimal : (start width decimals : ℕ) → Value
-anyDecimal start width decimals = rangedValue start width decimals 0 (10 ^ (width - 1) - 1)
-
-abbrev pub noValue : Value
-noValue = rangedValue 0 0 0 0 0
-
-abbrev pub so2Ppm : Value
-so2Ppm = anyDecimal 35 6 1
-
-abbrev pub noxPpm : Value
-noxPpm = anyDecimal 29 6 1
-
-abbrev pub co2Percent : Value
-co2Percent = rangedValue 29 6 1 1 1000
-
-abbrev pub flowScfh : Value
-flowScfh = steppedValue 39 10 0 0 500_000_000 1000
-
--- flow is recorded in whole thousands: how many there are in a number of scfh, and the scfh of so many
-
-abbrev pub thousandsOf : ℕ → ℕ
-thousandsOf scfh = scfh / flowScfh .step
-
-abbrev pub scfhOf : ℕ → ℕ
-scfhOf thousands = flowScfh .step * thousands
-
--- the time of an operating hour, and that of any hour which is listed: an idle one has 0.00
-abbrev pub timeHours : Value
-timeHours = rangedValue 18 4 2 1 100
-
-abbrev pub listedTime : Value
-listedTime = rangedValue (timeHours .start) (timeHours .width) (timeHours .decimals) 0 (timeHours .most)
-
-abbrev pub heatRate : Value
-heatRate = anyDecimal 36 7 1
-
-abbrev pub so2Tons : Value
-so2Tons = anyDecimal 10 11 1
-
-abbrev pub co2Tons : Value
-co2Tons = anyDecimal 21 11 1
-
-abbrev pub heatTotal : Value
-heatTotal = anyDecimal 32 11 1
-
-abbrev pub noxMean : Value
-noxMean = anyDecimal 43 6 3
-
-abbrev pub noxTons : Value
-noxTons = anyDecimal 49 11 1
-
-abbrev pub so2Rate : Value
-so2Rate = anyDecimal 25 7 1
-
 -- the word of a gas hour, on its 310 line
 
 abbrev pub gasStart : ℕ
@@ -114,15 +45,6 @@ gasStart = 32
 
 abbrev pub gasWord : List ℕ
 gasWord = 71 ∷ 65 ∷ 83 ∷ []
-
-abbrev pub fFactor : Value
-fFactor = rangedValue 26 10 1 5000 30000
-
-abbrev pub noxRate : Value
-noxRate = anyDecimal 36 6 3
-
-abbrev pub co2Rate : Value
-co2Rate = anyDecimal 18 7 1
 
 -- a report of so many operating hours and so many 300 lines, and one that lists no other hour
 abbrev pub shapeWith : (hours operations : ℕ) → Shape
@@ -136,6 +58,12 @@ abbrev pub linesOf : Run → Shape → ℕ
 linesOf Once s = 1
 linesOf Hourly s = s .hours
 linesOf Listed s = s .operations
+
+-- by its run, a type has one line, without a date, or lines with dates, one for each operating hour
+abbrev pub onceOrDated : {A : Type 0} → Run → (once dated : A) → A
+onceOrDated Once once dated = once
+onceOrDated Hourly once dated = dated
+onceOrDated Listed once dated = dated
 
 -- a type's code; its length without byte 10; where date and hour start (0 where it has none); its run of lines; its values, left to right;
 -- whether its lines may have the word of a gas hour
@@ -229,14 +157,9 @@ abbrev pub typesBetween : RecordType → RecordType → List RecordType
 typesBetween t u = drop (rankOf t + 1) (earlier u)
 
 -- those of which every operating hour has a line
-abbrev pub keepHourly : Run → RecordType → List RecordType → List RecordType
-keepHourly Once t ts = ts
-keepHourly Hourly t ts = t ∷ ts
-keepHourly Listed t ts = t ∷ ts
-
 abbrev pub hourly : List RecordType → List RecordType
 hourly [] = []
-hourly (t ∷ ts) = keepHourly (recordOf t .run) t (hourly ts)
+hourly (t ∷ ts) = onceOrDated (recordOf t .run) (hourly ts) (t ∷ hourly ts)
 
 -- how many lines of a type a report of a shape has, and their bytes, each line with its byte 10
 abbrev pub countOf : Shape → RecordType → ℕ
@@ -270,26 +193,21 @@ offsetOf s t k = frontOf s t .bytes + (lengthOf t + 1) * k
 unfoldable pub reportLength : Shape → ℕ
 reportLength s = totalOf (bytesOf s) order
 
+-- the runs of some types, one after the other
+abbrev pub joinedRuns : (RecordType → List ℕ) → List RecordType → List ℕ
+joinedRuns run [] = []
+joinedRuns run (t ∷ ts) = run t ++ joinedRuns run ts
+
 -- the counts of a quarter
 pub record Held (s : Shape) : Type 0 where
   pub hours : s .hours ≤ mostHours
   pub operations : s .operations ≤ mostHours
 
--- a number of a value's range
-abbrev pub Between : Value → ℕ → Type 0
-Between v k = (v .least ≤ k) × (k ≤ v .most)
-
--- a number of a value's range and a multiple of its step, and the tests of both
-pub record Within (v : Value) (k : ℕ) : Type 0 where
-  pub least : v .least ≤ k
-  pub most : k ≤ v .most
-  pub whole : k % v .step ≡ 0
-
-abbrev pub inRange : Value → ℕ → Bool
-inRange v k = leb (v .least) k && leb k (v .most)
-
-abbrev pub wholeSteps : Value → ℕ → Bool
-wholeSteps v k = eqb (k % v .step) 0
-
-unfoldable pub within : Value → ℕ → Bool
-within v k = inRange v k && wholeSteps v k
+-- the columns of a value in a line of a type
+pub record ValueInside (t : RecordType) (v : Value) : Type 0 where
+  pub first : 1 ≤ v .start
+  pub last : v .start - 1 + v .width ≤ lengthOf t
+  pub narrow : v .width ≤ 11
+  pub room : fewestColumns (v .decimals) ≤ v .width
+  pub decimals : v .decimals < v .width
+  pub step : 1 ≤ v .step

@@ -13,7 +13,8 @@ use Rattle.calendar.specs.Calendar.{mostHours}
 use Rattle.exact.specs.Logic.{both}
 use Rattle.exact.specs.Sums.{totalOf}
 use Rattle.layout.specs.Layout.{lengthOf, dateColumn, dateWidth, valueCount, mostValues, linesOf, recordOf, countOf, shape, order, rankOf, typeAt}
-use Rattle.layout.specs.Layout.{reportLength, Held, Between, Within, inRange, wholeSteps, within, flowScfh, thousandsOf, scfhOf}
+use Rattle.layout.specs.Layout.{reportLength, Held}
+use Rattle.layout.specs.Values.{InRange, Within, inRange, wholeSteps, within, flowScfh, thousandsOf, scfhOf}
 use Rattle.layout.specs.declared.RecordType.{RecordType}
 use Rattle.layout.specs.declared.RecordType.the-variants.{Facility, So2Concentration, NoxConcentration, Co2Concentration, VolumetricFlow}
 use Rattle.layout.specs.declared.RecordType.the-variants.{Operation, QuarterTotals, So2Mass, NoxRate, Co2Mass}
@@ -86,22 +87,22 @@ count-most s h t = go (recordOf t .run)
 
 -- the tests of a range and a step
 
-pub in-range-true : (v : Value) (k : ℕ) → inRange v k ≡ true → Between v k
+pub in-range-true : (v : Value) (k : ℕ) → inRange v k ≡ true → InRange v k
 in-range-true v k e = let b = both (leb (v .least) k) (leb k (v .most)) e in (leb-true _ _ (b .0), leb-true _ _ (b .1))
 
 pub tests-within : (v : Value) (k : ℕ) → inRange v k ≡ true → wholeSteps v k ≡ true → Within v k
-tests-within v k r s = let b = in-range-true v k r in record { least = b .0; most = b .1; whole = eqb-true _ _ s }
+tests-within v k r s = let b = in-range-true v k r in record { least = b .0; most = b .1; steps = eqb-true _ _ s }
 
 pub within-true : (v : Value) (k : ℕ) → within v k ≡ true → Within v k
 unfolding within
 within-true v k e = let b = both (inRange v k) (wholeSteps v k) e in tests-within v k (b .0) (b .1)
 
-pub true-in-range : (v : Value) (k : ℕ) → Between v k → inRange v k ≡ true
+pub true-in-range : (v : Value) (k : ℕ) → InRange v k → inRange v k ≡ true
 true-in-range v k b = rw (le-leb _ _ (b .0), le-leb _ _ (b .1))
 
 pub true-within : (v : Value) (k : ℕ) → Within v k → within v k ≡ true
 unfolding within
-true-within v k w = rw (true-in-range v k (w .least, w .most), eq-eqb _ _ (w .whole))
+true-within v k w = rw (true-in-range v k (w .least, w .most), eq-eqb _ _ (w .steps))
 
 -- scfh to thousands and back: 20,000,000 scfh are 20,000 thousands
 

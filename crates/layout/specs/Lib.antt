@@ -1,3 +1,4 @@
+pub mod Values
 pub mod Layout
 pub mod LayoutLaws
 pub mod ValueLaws

@@ -2,7 +2,7 @@
 use Prim.Native.Nat.{ℕ, suc, _+_, _*_, _≤_, _<_}
 use mathlib.Core.Path.{_≡_, refl, sym, ap, _∙_}
 use mathlib.Core.Bool.{Bool, true, false, cond}
-use mathlib.Core.List.{List, [], _∷_, _++_, append-assoc}
+use mathlib.Core.List.{List, [], _∷_, _++_}
 use native.Mathlib.Omega.{arith}
 use native.Mathlib.Nat.{mul-le-mul-left}
 use native.Mathlib.Numerals.{add-one}
@@ -10,7 +10,7 @@ use lib.Dec.{eqb}
 use lib.ListN.{length, take, drop}
 use lib.Seq.{split-at, drop-at, drop-drop}
 use Rattle.exact.specs.Sums.{totalOf}
-use Rattle.layout.specs.Layout.{codeOf, lengthOf, order, placeOf, rankOf, earlier, later, countOf}
+use Rattle.layout.specs.Layout.{joinedRuns, codeOf, lengthOf, order, placeOf, rankOf, earlier, later, countOf}
 use Rattle.layout.specs.Layout.{bytesOf, past, upTo, nothing, frontOf, offsetOf, reportLength}
 use Rattle.layout.specs.LayoutLaws.{in-order}
 use Rattle.layout.specs.declared.RecordType.{RecordType}
@@ -68,27 +68,19 @@ line-inside s t k h =
 
 -- a report is the runs of its types, one after the other
 module _ (run : RecordType → List ℕ) where
-  abbrev pub joinedRuns : List RecordType → List ℕ
-  joinedRuns [] = []
-  joinedRuns (t ∷ ts) = run t ++ joinedRuns ts
-
-  runs-append : (ts us : List RecordType) → joinedRuns (ts ++ us) ≡ joinedRuns ts ++ joinedRuns us
-  runs-append [] us = refl
-  runs-append (t ∷ ts) us = ap (λ (l : List ℕ). run t ++ l) (runs-append ts us) ∙ sym (append-assoc (run t) (joinedRuns ts) (joinedRuns us))
-
   -- behind the bytes of some types stand the runs of the others
   module _ (s : Shape) (long : (t : RecordType) → length (run t) ≡ bytesOf s t) where
-    behind : (ts us : List RecordType) → drop (totalOf (bytesOf s) ts) (joinedRuns (ts ++ us)) ≡ joinedRuns us
+    behind : (ts us : List RecordType) → drop (totalOf (bytesOf s) ts) (joinedRuns run (ts ++ us)) ≡ joinedRuns run us
     unfolding totalOf
     behind [] us = refl
     behind (t ∷ ts) us =
-        sym (drop-drop (totalOf (bytesOf s) ts) (bytesOf s t) (run t ++ joinedRuns (ts ++ us)))
-        ∙ ap (drop (totalOf (bytesOf s) ts)) (drop-at (run t) (joinedRuns (ts ++ us)) (bytesOf s t) (long t))
+        sym (drop-drop (totalOf (bytesOf s) ts) (bytesOf s t) (run t ++ joinedRuns run (ts ++ us)))
+        ∙ ap (drop (totalOf (bytesOf s) ts)) (drop-at (run t) (joinedRuns run (ts ++ us)) (bytesOf s t) (long t))
         ∙ behind ts us
 
     -- each type's run starts where the layout has it
-    pub run-place : (t : RecordType) → drop (frontOf s t .bytes) (joinedRuns order) ≡ run t ++ joinedRuns (later t)
+    pub run-place : (t : RecordType) → drop (frontOf s t .bytes) (joinedRuns run order) ≡ run t ++ joinedRuns run (later t)
     run-place t =
-        ap (λ (n : ℕ). drop n (joinedRuns order)) (front-bytes s t)
-        ∙ ap (λ (ts : List RecordType). drop (totalOf (bytesOf s) (earlier t)) (joinedRuns ts)) (order-split t)
+        ap (λ (n : ℕ). drop n (joinedRuns run order)) (front-bytes s t)
+        ∙ ap (λ (ts : List RecordType). drop (totalOf (bytesOf s) (earlier t)) (joinedRuns run ts)) (order-split t)
         ∙ behind (earlier t) (t ∷ later t)

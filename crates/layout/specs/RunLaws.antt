@@ -10,28 +10,23 @@ use lib.Dec.{eqb, leb}
 use lib.ListN.{length, getD, take, length-append}
 use borrow.Author.Tests.{eqb-true, leb-true}
 use Rattle.exact.specs.Sums.{totalOf}
-use Rattle.layout.specs.Layout.{recordOf, codeOf, dateColumn, order, rankOf, typeAt, keepHourly, shape, linesOf, countOf, bytesOf, frontOf, reportLength}
+use Rattle.layout.specs.Layout.{recordOf, codeOf, dateColumn, order, rankOf, typeAt, onceOrDated, shape, linesOf, countOf, bytesOf, frontOf, reportLength}
 use Rattle.exact.specs.Logic.{both}
-use Rattle.layout.specs.LayoutLaws.{each}
+use Rattle.layout.specs.LayoutLaws.{each, once-undated}
 use Rattle.layout.specs.TypeLaws.{code-tells}
-use Rattle.layout.specs.PlaceLaws.{front-bytes, joinedRuns}
+use Rattle.layout.specs.PlaceLaws.{front-bytes}
+use Rattle.layout.specs.Layout.{joinedRuns}
 use Rattle.layout.specs.declared.RecordType.{RecordType}
 use Rattle.layout.specs.declared.RecordType.the-variants.{Facility, Operation, QuarterTotals}
 use Rattle.layout.specs.declared.Run.{Run}
 use Rattle.layout.specs.declared.Run.the-variants.{Once, Hourly, Listed}
 use Rattle.layout.specs.declared.Shape.{Shape}
 
--- a test of the types that stand once, or of the others
-abbrev ifRun : Run → Bool → Bool → Bool
-ifRun Once once hourly = once
-ifRun Hourly once hourly = hourly
-ifRun Listed once hourly = hourly
-
 -- line 100 and line 301 stand once
 pub once-type : (t : RecordType) → recordOf t .run ≡ Once → (t ≡ Facility) ⊎ (t ≡ QuarterTotals)
 once-type t e =
     go (eqb (codeOf t) (codeOf Facility)) refl
-    (rw e at (each (λ t. ifRun (recordOf t .run) (eqb (codeOf t) (codeOf Facility) || eqb (codeOf t) (codeOf QuarterTotals)) true) refl t))
+    (rw e at (each (λ t. onceOrDated (recordOf t .run) (eqb (codeOf t) (codeOf Facility) || eqb (codeOf t) (codeOf QuarterTotals)) true) refl t))
   where
     go : (first : Bool) → eqb (codeOf t) (codeOf Facility) ≡ first → first || eqb (codeOf t) (codeOf QuarterTotals) ≡ true
         → (t ≡ Facility) ⊎ (t ≡ QuarterTotals)
@@ -39,17 +34,8 @@ once-type t e =
     go false f h = inr (code-tells t QuarterTotals (eqb-true _ _ h))
 
 -- the others have a date
-dated-test : (t : RecordType) → ifRun (recordOf t .run) true (leb 1 (dateColumn t)) ≡ true
-dated-test t = each (λ t. ifRun (recordOf t .run) true (leb 1 (dateColumn t))) refl t
-
-pub hourly-dated : (t : RecordType) → recordOf t .run ≡ Hourly → 1 ≤ dateColumn t
-hourly-dated t e = leb-true _ _ (rw e at (dated-test t))
-
-pub listed-dated : (t : RecordType) → recordOf t .run ≡ Listed → 1 ≤ dateColumn t
-listed-dated t e = leb-true _ _ (rw e at (dated-test t))
-
-pub once-undated : (t : RecordType) → recordOf t .run ≡ Once → dateColumn t ≡ 0
-once-undated t e = ⊎-elim (λ f. ap dateColumn f) (λ f. ap dateColumn f) (once-type t e)
+dated-test : (t : RecordType) → onceOrDated (recordOf t .run) true (leb 1 (dateColumn t)) ≡ true
+dated-test t = each (λ t. onceOrDated (recordOf t .run) true (leb 1 (dateColumn t))) refl t
 
 -- a type stands once, or has a date
 pub once-or-dated : (t : RecordType) → (recordOf t .run ≡ Once) ⊎ (1 ≤ dateColumn t)
@@ -57,8 +43,24 @@ once-or-dated t = go (recordOf t .run) refl
   where
     go : (run : Run) → recordOf t .run ≡ run → (recordOf t .run ≡ Once) ⊎ (1 ≤ dateColumn t)
     go Once e = inl e
-    go Hourly e = inr (hourly-dated t e)
-    go Listed e = inr (listed-dated t e)
+    go Hourly e = inr (leb-true _ _ (rw e at (dated-test t)))
+    go Listed e = inr (leb-true _ _ (rw e at (dated-test t)))
+
+pub undated-once : (t : RecordType) → dateColumn t ≡ 0 → recordOf t .run ≡ Once
+undated-once t e = ⊎-elim (λ o. o) (λ d. absurd (omega arith)) (once-or-dated t)
+
+pub dated-run : {A : Type 0} (t : RecordType) → 1 ≤ dateColumn t → (once dated : A) → onceOrDated (recordOf t .run) once dated ≡ dated
+dated-run t d once dated = go (recordOf t .run) refl
+  where
+    go : (run : Run) → recordOf t .run ≡ run → onceOrDated run once dated ≡ dated
+    go Once e = absurd (omega (arith, once-undated t e))
+    go Hourly e = refl
+    go Listed e = refl
+
+-- what holds of the one where the type stands once, and of the other where it has a date, holds by its run
+pub by-run : {A : Type 0} (P : A → Type 0) (t : RecordType) (once dated : A) → (recordOf t .run ≡ Once → P once) → (1 ≤ dateColumn t → P dated) →
+    P (onceOrDated (recordOf t .run) once dated)
+by-run P t once dated f g = ⊎-elim (λ e. rw e (f e)) (λ d. rw (dated-run t d once dated) (g d)) (once-or-dated t)
 
 -- of a type with a date every operating hour has a line
 module _ (t : RecordType) (d : 1 ≤ dateColumn t) where
@@ -77,14 +79,6 @@ module _ (t : RecordType) (d : 1 ≤ dateColumn t) where
       go Once e = absurd (omega (arith, once-undated t e))
       go Hourly e = h
       go Listed e = m
-
-  pub keep-dated : (ts : List RecordType) → keepHourly (recordOf t .run) t ts ≡ t ∷ ts
-  keep-dated ts = go (recordOf t .run) refl
-    where
-      go : (run : Run) → recordOf t .run ≡ run → keepHourly run t ts ≡ t ∷ ts
-      go Once e = absurd (omega (arith, once-undated t e))
-      go Hourly e = refl
-      go Listed e = refl
 
 -- 300 lines alone are more than the operating hours
 abbrev ifListed : Run → Bool → Bool

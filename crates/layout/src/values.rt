@@ -1,7 +1,7 @@
 // The values of records: their columns, decimals, ranges and steps.
 ghost use mathlib.Core.Path.{_≡_};
 ghost use Prim.Native.Nat.{_≤_};
-ghost use Rattle.layout.specs.Layout.{inRange, wholeSteps, within, Within, flowScfh, thousandsOf, scfhOf};
+ghost use Rattle.layout.specs.Values.{inRange, wholeSteps, within, Within, flowScfh, thousandsOf, scfhOf};
 
 // A value's first column (from 1), width and decimals (0: a whole number); in units of its last decimal, the least and the most it may be
 // and the step of which it is a multiple.

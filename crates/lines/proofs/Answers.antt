@@ -3,19 +3,23 @@ use Prim.Native.Nat.{ℕ, zero, suc}
 use mathlib.Core.Path.{_≡_, refl, sym, ap, _∙_}
 use mathlib.Core.List.{List}
 use mathlib.Core.Bool.{Bool, not}
-use native.Mathlib.Omega.{arith}
 use Rattle.columns.specs.Bytes.{isBlank, all}
 use Rattle.calendar.specs.declared.QuarterHour.{QuarterHour}
-use Rattle.layout.specs.Layout.{yearDigits, quarterDigit, within}
+use lib.ListN.{length, take}
+use Rattle.layout.specs.Layout.{lengthOf}
+use Rattle.layout.specs.Values.{yearDigits, quarterDigit, within}
 use Rattle.layout.specs.declared.RecordType.{RecordType}
 use Rattle.layout.specs.declared.RecordType.the-variants.{Facility, So2Concentration}
 use Rattle.exact.specs.Faults.{_orElse_, unless}
 use Rattle.lines.specs.LineFaults.{shapeFault, stackOf, commonFault, digitsIn, periodOn, facilityFault, facilityLine}
-use Rattle.lines.specs.LineFaults.{risingFault, hourOn, hourIn, datedFault, datedLine, hourFault, hourLine, saidOf}
+use Rattle.lines.specs.LineFaults.{risingFault, hourOn, hourIn, datedFault, hourSaid, datedLine, hourFault, hourLine, saidOf}
+use Rattle.lines.specs.FaultLaws.{said-hour, said-fault, dated-shape}
+use Rattle.lines.specs.Lines.{firstLine}
+use Rattle.lines.proofs.Shapes.{line-known, line-length}
+use Rattle.lines.specs.declared.HourLine.{HourLine}
 use Rattle.lines.specs.declared.Period.{Period}
 use Rattle.lines.specs.declared.FacilityLine.{FacilityLine}
 use Rattle.lines.specs.declared.FacilityLine.the-variants.{Of, Faulty as FaultyFacility}
-use Rattle.lines.specs.declared.HourLine.{HourLine}
 use Rattle.lines.specs.declared.HourLine.the-variants.{At as OfHour, Faulty as FaultyHour}
 use Rattle.lines.specs.declared.operation.OperationLine.{OperationLine}
 use Rattle.lines.specs.declared.operation.OperationLine.the-variants.{Faulty as FaultyOperation}
@@ -44,23 +48,18 @@ module _ (line : List ℕ) where
   unfolding facilityFault
   facility-tests blank year quarter s b y q = rw (s, b, y, q)
 
-module _ (hour : ℕ) where
-  names : ℕ → HourLine
-  names f = elim f [ zero ↦ OfHour hour | suc c ↦ FaultyHour (suc c) ]
-
-  failed : (f : ℕ) → (f ≡ 0 → ⊥) → FaultyHour f ≡ names f
-  unfolding names
-  failed zero n = absurd (n refl)
-  failed (suc c) n = refl
+failed : (f hour : ℕ) → (f ≡ 0 → ⊥) → FaultyHour f ≡ hourSaid f hour
+failed zero hour n = absurd (n refl)
+failed (suc c) hour n = refl
 
 module _ (facility : List ℕ) (period : Period) (t : RecordType) (from : ℕ) (line : List ℕ) where
   pub dated-faulty : (f : ℕ) → f ≡ datedFault facility period t from line → (f ≡ 0 → ⊥) → FaultyHour f ≡ datedLine facility period t from line
-  unfolding datedLine names
-  dated-faulty f e n = failed (hourIn period t line) f n ∙ ap (names (hourIn period t line)) e
+  unfolding datedLine
+  dated-faulty f e n = failed f (hourIn period t line) n ∙ ap (λ (f : ℕ). hourSaid f (hourIn period t line)) e
 
   pub dated-of : datedFault facility period t from line ≡ 0 → OfHour (hourIn period t line) ≡ datedLine facility period t from line
-  unfolding datedLine names
-  dated-of e = sym (ap (names (hourIn period t line)) e)
+  unfolding datedLine
+  dated-of e = sym (ap (λ (f : ℕ). hourSaid f (hourIn period t line)) e)
 
   -- the test behind those that every line has
   pub dated-test : (hour : QuarterHour) → commonFault facility t line ≡ 0 → hourOn period t line ≡ hour →
@@ -71,33 +70,36 @@ module _ (facility : List ℕ) (period : Period) (t : RecordType) (from : ℕ) (
   -- what it says
   pub dated-at : (hour : ℕ) → datedLine facility period t from line ≡ OfHour hour → (datedFault facility period t from line ≡ 0) × (hourIn period t line ≡ hour)
   unfolding datedLine
-  dated-at hour = go (datedFault facility period t from line) refl
-    where
-      go : (f : ℕ) → datedFault facility period t from line ≡ f → elim f [ zero ↦ OfHour (hourIn period t line) | suc c ↦ FaultyHour (suc c) ] ≡ OfHour hour →
-          (datedFault facility period t from line ≡ 0) × (hourIn period t line ≡ hour)
-      go zero k w = (k, cc)
-      go (suc c) k w = absurd (let z : _≡_ {A = ℕ} 0 1 = cc in omega arith)
+  dated-at hour e = said-hour (datedFault facility period t from line) (hourIn period t line) hour e
 
   pub dated-not : (number : ℕ) → datedLine facility period t from line ≡ FaultyHour number →
       (datedFault facility period t from line ≡ number) × (number ≡ 0 → ⊥)
   unfolding datedLine
-  dated-not number = go (datedFault facility period t from line) refl
-    where
-      go : (f : ℕ) → datedFault facility period t from line ≡ f →
-          elim f [ zero ↦ OfHour (hourIn period t line) | suc c ↦ FaultyHour (suc c) ] ≡ FaultyHour number →
-          (datedFault facility period t from line ≡ number) × (number ≡ 0 → ⊥)
-      go zero k w = absurd (let z : _≡_ {A = ℕ} 0 1 = cc in omega arith)
-      go (suc c) k w = let n : suc c ≡ number = cc in (k ∙ n, (λ z. omega arith))
+  dated-not number e = said-fault (datedFault facility period t from line) (hourIn period t line) number e
+
+-- a line whose hour is known, so far without fault: it is as long as its type's lines are
+pub record Dated (facility : List ℕ) (period : Period) (t : RecordType) (from : ℕ) (rest : List ℕ) (hour : ℕ) : Type 0 where
+  pub none : datedFault facility period t from (firstLine rest) ≡ 0
+  pub own : hourIn period t (firstLine rest) ≡ hour
+  pub known : firstLine rest ≡ take (lengthOf t) rest
+  pub long : length (take (lengthOf t) rest) ≡ lengthOf t
+
+pub dated-known : (facility : List ℕ) (period : Period) (t : RecordType) (from : ℕ) (rest : List ℕ) {r : HourLine} (hour : ℕ) →
+    r ≡ datedLine facility period t from (firstLine rest) → r ≡ OfHour hour → Dated facility period t from rest hour
+dated-known facility period t from rest hour e f =
+    let said = dated-at facility period t from (firstLine rest) hour (sym e ∙ f) in
+    let fine = dated-shape facility period t from (firstLine rest) (said .0) in
+    record { none = said .0; own = said .1; known = line-known t rest fine (lengthOf t) refl; long = line-length t rest fine (lengthOf t) refl }
 
 -- a 200 line, from its fault
 module _ (facility : List ℕ) (period : Period) (from : ℕ) (line : List ℕ) where
   pub hour-faulty : (f : ℕ) → f ≡ hourFault facility period from line → (f ≡ 0 → ⊥) → FaultyHour f ≡ hourLine facility period from line
-  unfolding hourLine names
-  hour-faulty f e n = failed (hourIn period So2Concentration line) f n ∙ ap (names (hourIn period So2Concentration line)) e
+  unfolding hourLine
+  hour-faulty f e n = failed f (hourIn period So2Concentration line) n ∙ ap (λ (f : ℕ). hourSaid f (hourIn period So2Concentration line)) e
 
   pub hour-of : hourFault facility period from line ≡ 0 → OfHour (hourIn period So2Concentration line) ≡ hourLine facility period from line
-  unfolding hourLine names
-  hour-of e = sym (ap (names (hourIn period So2Concentration line)) e)
+  unfolding hourLine
+  hour-of e = sym (ap (λ (f : ℕ). hourSaid f (hourIn period So2Concentration line)) e)
 
 -- a 300 line, from its fault
 pub operation-faulty : (f : ℕ) (hour : OperationLine) → (f ≡ 0 → ⊥) → FaultyOperation f ≡ saidOf f hour

@@ -10,7 +10,8 @@ use lib.ListN.{length, take, drop, getD, drop-of-length-le}
 use lib.Seq.{drop-cons}
 use Rattle.columns.specs.Bytes.{same}
 use Rattle.columns.specs.Columns.{columns}
-use Rattle.layout.specs.Layout.{dateWidth, rangedValue, valueCount, valuesOf, valueAt}
+use Rattle.layout.specs.Layout.{dateWidth, valueCount, valuesOf, valueAt}
+use Rattle.layout.specs.Values.{rangedValue}
 use Rattle.layout.specs.ValueLaws.{value-count, value-of}
 use Rattle.layout.specs.declared.RecordType.{RecordType}
 use Rattle.layout.specs.declared.values.Value.{Value}

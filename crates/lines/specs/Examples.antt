@@ -12,7 +12,7 @@ use Rattle.calendar.specs.Calendar.{leapYear, daysInMonth, inQuarter, daysBefor
 use Rattle.stamp.specs.Stamp.{numberHour, fieldHour, stampHour}
 use Rattle.columns.specs.declared.Field.{Field}
 use Rattle.columns.specs.declared.Field.the-variants.{Blank, Malformed, Number}
-use Rattle.layout.specs.Layout.{flowScfh}
+use Rattle.layout.specs.Values.{flowScfh}
 use Rattle.layout.specs.declared.RecordType.the-variants.{So2Mass}
 use Rattle.lines.specs.LineFaults.{typeIs, shapeFault, stackFault, commonFault, fieldFault, valuesFault, digitsIn, periodOn, risingFault, datedFault}
 use Rattle.lines.specs.LineFaults.{so2Fault, dueOf, dateFault, hasGas, so2Blank, gasFault, dueFault}

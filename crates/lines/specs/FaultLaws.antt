@@ -8,29 +8,28 @@ use native.Mathlib.Nat.{le-of-suc-le-suc, not-suc-le-zero}
 use lib.Dec.{eqb, leb}
 use lib.ListN.{length, take, drop, getD}
 use lib.Seq.{drop-drop, take-take}
-use borrow.Author.Tests.{eqb-true, leb-true, le-leb, eq-eqb}
+use borrow.Author.Tests.{eqb-true, leb-true, eq-eqb}
 use Rattle.columns.specs.Bytes.{isBlank, all}
 use Rattle.columns.specs.BytesLaws.{same-eq}
 use Rattle.columns.specs.Columns.{columns}
 use Rattle.columns.specs.Number.{isEmpty, numberOf}
 use Rattle.columns.specs.declared.Field.{Field}
 use Rattle.columns.specs.declared.Field.the-variants.{Blank, Malformed, Number}
-use Rattle.calendar.specs.Calendar.{mostHours, IsQuarter}
+use Rattle.calendar.specs.Calendar.{mostHours, IsQuarter, hoursInQuarter}
 use Rattle.calendar.specs.declared.QuarterHour.{QuarterHour}
 use Rattle.calendar.specs.declared.QuarterHour.the-variants.{At, Outside}
-use Rattle.layout.specs.Layout.{recordOf, codeOf, lengthOf, dateColumn, typeWidth, typeDigits, yearDigits, quarterDigit, so2Ppm}
-use Rattle.layout.specs.Layout.{valuesOf, valueCount, valueAt, noValue, Within, inRange, wholeSteps, within}
+use Rattle.layout.specs.Layout.{recordOf, codeOf, lengthOf, dateColumn, typeWidth, typeDigits, valuesOf, valueCount, valueAt}
+use Rattle.layout.specs.Values.{yearDigits, quarterDigit, so2Ppm, noValue, Within, inRange, wholeSteps, within}
 use Rattle.layout.specs.LayoutLaws.{tests-within, within-true, true-in-range}
 use Rattle.layout.specs.TypeLaws.{digits-tell}
 use Rattle.layout.specs.declared.RecordType.{RecordType}
 use Rattle.layout.specs.declared.RecordType.the-variants.{Facility, So2Concentration}
 use Rattle.layout.specs.declared.values.Value.{Value}
-use Rattle.stamp.specs.StampLaws.{stamp-below}
-use Rattle.exact.specs.Logic.{agree, agreed}
+use Rattle.stamp.specs.StampLaws.{stamp-inside, stamp-below}
 use Rattle.exact.specs.Faults.{unless, or-zero, unless-zero}
 use Rattle.lines.specs.LineFaults.{typeIs, shapeFault, stackOf, commonFault, fieldFault, fieldIn, valuesFault, digitsIn, periodOn}
-use Rattle.lines.specs.LineFaults.{facilityFault, facilityLine, risingFault, dateOn, hourOn, datedFault, hourFault, hourNumber, hourIn, hourLine}
-use Rattle.lines.specs.LineFaults.{so2Fault, Due, dateFault, hasGas, so2Blank, gasFault, dueFault}
+use Rattle.lines.specs.LineFaults.{facilityFault, facilityLine, risingFault, dateOn, hourOn, datedFault, hourSaid, hourFault, hourNumber, hourIn, hourLine}
+use Rattle.lines.specs.LineFaults.{so2Fault, Due, dateFault, gasFault, dueFault}
 use Rattle.lines.specs.declared.Period.{Period}
 use Rattle.lines.specs.declared.FacilityLine.the-variants.{Of, Faulty as FaultyFacility}
 use Rattle.lines.specs.declared.HourLine.the-variants.{At as OfHour, Faulty as FaultyHour}
@@ -62,7 +61,7 @@ field-within v (Number k) e =
 
 pub field-right : (v : Value) (k : ℕ) → Within v k → fieldFault v (Number k) ≡ 0
 unfolding fieldFault
-field-right v k w = rw (true-in-range v k (w .least, w .most), eq-eqb _ _ (w .whole))
+field-right v k w = rw (true-in-range v k (w .least, w .most), eq-eqb _ _ (w .steps))
 
 -- so does that of a 200 line, a blank one being 0
 so2-within : (f : Field) → so2Fault f ≡ 0 → Within so2Ppm (numberOf f)
@@ -77,6 +76,29 @@ unfolding valuesFault
 values-within [] line e i d h = absurd (not-suc-le-zero h)
 values-within (v ∷ vs) line e zero d h = field-within v (fieldIn v line) (or-zero (fieldFault v (fieldIn v line)) _ e .0)
 values-within (v ∷ vs) line e (suc i) d h = values-within vs line (or-zero (fieldFault v (fieldIn v line)) _ e .1) i d (le-of-suc-le-suc h)
+
+-- a value without fault is not malformed; on a 200 line it may be blank
+
+pub field-formed : (v : Value) (f : Field) → fieldFault v f ≡ 0 → f ≡ Malformed → ⊥
+unfolding fieldFault
+field-formed v f e m = let z : fieldFault v Malformed ≡ 0 = rw m at e in omega arith
+
+so2-formed : (f : Field) → so2Fault f ≡ 0 → f ≡ Malformed → ⊥
+unfolding so2Fault
+so2-formed f e m = let z : so2Fault Malformed ≡ 0 = rw m at e in omega arith
+
+all-formed : (vs : List Value) (line : List ℕ) → valuesFault vs line ≡ 0 → (i : ℕ) (d : Value) → i < length vs → fieldIn (getD vs i d) line ≡ Malformed → ⊥
+unfolding valuesFault
+all-formed [] line e i d h = absurd (not-suc-le-zero h)
+all-formed (v ∷ vs) line e zero d h = field-formed v (fieldIn v line) (or-zero (fieldFault v (fieldIn v line)) _ e .0)
+all-formed (v ∷ vs) line e (suc i) d h = all-formed vs line (or-zero (fieldFault v (fieldIn v line)) _ e .1) i d (le-of-suc-le-suc h)
+
+-- no value of a line of a type is malformed
+abbrev pub ValuesFormed : RecordType → List ℕ → Type 0
+ValuesFormed t line = (i : ℕ) → i < valueCount t → fieldIn (valueAt t i) line ≡ Malformed → ⊥
+
+pub values-formed : (t : RecordType) (line : List ℕ) → valuesFault (valuesOf t) line ≡ 0 → ValuesFormed t line
+values-formed t line e i h = all-formed (valuesOf t) line e i noValue h
 
 -- a value that has no fault has none on a 200 line, and is not blank
 pub so2-right : (f : Field) → fieldFault so2Ppm f ≡ 0 → (so2Fault f ≡ 0) × (isEmpty f ≡ false)
@@ -110,9 +132,6 @@ module _ (line : List ℕ) (e : facilityFault line ≡ 0) where
       or-zero (unless (within yearDigits (digitsIn yearDigits line)) 6) _
       (or-zero (unless (not (all isBlank (stackOf line))) 5) _ (or-zero (shapeFault Facility line) _ e .1) .1)
 
-  pub facility-year : Within yearDigits (periodOn line .year)
-  facility-year = within-true yearDigits _ (unless-zero (within yearDigits (digitsIn yearDigits line)) 5 (facility-ranges .0))
-
   pub facility-quarter : Within quarterDigit (periodOn line .quarter)
   facility-quarter = within-true quarterDigit _ (unless-zero (within quarterDigit (digitsIn quarterDigit line)) 5 (facility-ranges .1))
 
@@ -133,14 +152,14 @@ module _ (facility : List ℕ) (period : Period) (t : RecordType) (from : ℕ) (
       go Outside k f = absurd (omega arith)
       go (At h) k f = (leb-true from h (unless-zero (leb from h) 5 f), stamp-below (period .year) (period .quarter) q (dateOn t line) h k)
 
-  -- nor is it below what is earlier
-  pub dated-earlier : (earlier : ℕ) → earlier ≤ from → datedFault facility period t earlier line ≡ 0
-  unfolding datedFault risingFault
-  dated-earlier earlier h = rw (dated-parts .0) (go (hourOn period t line) (dated-parts .1))
+  -- it is one that the quarter has
+  pub dated-inside : hourIn period t line < hoursInQuarter (period .year) (period .quarter)
+  unfolding risingFault hourNumber
+  dated-inside = go (hourOn period t line) refl (dated-parts .1)
     where
-      go : (x : QuarterHour) → risingFault from x ≡ 0 → risingFault earlier x ≡ 0
-      go Outside f = f
-      go (At x) f = let l = leb-true from x (unless-zero (leb from x) 5 f) in rw (le-leb earlier x (omega arith))
+      go : (h : QuarterHour) → hourOn period t line ≡ h → risingFault from h ≡ 0 → hourNumber h < hoursInQuarter (period .year) (period .quarter)
+      go Outside k f = absurd (omega arith)
+      go (At h) k f = stamp-inside (period .year) (period .quarter) (dateOn t line) h k
 
 module _ (facility : List ℕ) (period : Period) (from : ℕ) (line : List ℕ) (e : hourFault facility period from line ≡ 0) where
   hour-parts : (datedFault facility period So2Concentration from line ≡ 0) × (so2Fault (fieldIn so2Ppm line) ≡ 0)
@@ -154,8 +173,15 @@ module _ (facility : List ℕ) (period : Period) (from : ℕ) (line : List ℕ) 
   hour-values zero h = so2-within (fieldIn so2Ppm line) (hour-parts .1)
   hour-values (suc i) h = absurd (omega arith)
 
+  pub hour-formed : ValuesFormed So2Concentration line
+  hour-formed zero h = so2-formed (fieldIn so2Ppm line) (hour-parts .1)
+  hour-formed (suc i) h = absurd (omega arith)
+
   pub hour-rises : IsQuarter (period .quarter) → (from ≤ hourIn period So2Concentration line) × (hourIn period So2Concentration line < mostHours)
   hour-rises = dated-rises facility period So2Concentration from line (hour-parts .0)
+
+  pub hour-inside : hourIn period So2Concentration line < hoursInQuarter (period .year) (period .quarter)
+  hour-inside = dated-inside facility period So2Concentration from line (hour-parts .0)
 
 -- what lines 100 and 200 say, they say without fault
 
@@ -168,16 +194,18 @@ facility-said line period e = go (facilityFault line) refl e
     go zero k w = (k, cc)
     go (suc c) k w = absurd (let z : _≡_ {A = ℕ} 0 1 = cc in omega arith)
 
+pub said-hour : (fault own hour : ℕ) → hourSaid fault own ≡ OfHour hour → (fault ≡ 0) × (own ≡ hour)
+said-hour zero own hour e = (refl, cc)
+said-hour (suc c) own hour e = absurd (let z : _≡_ {A = ℕ} 0 1 = cc in omega arith)
+
+pub said-fault : (fault own number : ℕ) → hourSaid fault own ≡ FaultyHour number → (fault ≡ number) × (number ≡ 0 → ⊥)
+said-fault zero own number e = absurd (let z : _≡_ {A = ℕ} 0 1 = cc in omega arith)
+said-fault (suc c) own number e = let n : suc c ≡ number = cc in (n, (λ z. omega arith))
+
 pub hour-said : (facility : List ℕ) (period : Period) (from : ℕ) (line : List ℕ) (hour : ℕ) → hourLine facility period from line ≡ OfHour hour →
     (hourFault facility period from line ≡ 0) × (hourIn period So2Concentration line ≡ hour)
 unfolding hourLine
-hour-said facility period from line hour e = go (hourFault facility period from line) refl e
-  where
-    go : (f : ℕ) → hourFault facility period from line ≡ f →
-        elim f [ zero ↦ OfHour (hourIn period So2Concentration line) | suc c ↦ FaultyHour (suc c) ] ≡ OfHour hour →
-        (hourFault facility period from line ≡ 0) × (hourIn period So2Concentration line ≡ hour)
-    go zero k w = (k, cc)
-    go (suc c) k w = absurd (let z : _≡_ {A = ℕ} 0 1 = cc in omega arith)
+hour-said facility period from line hour e = said-hour (hourFault facility period from line) (hourIn period So2Concentration line) hour e
 
 -- a line that is due, part by part
 pub record DueRight (facility : List ℕ) (d : Due) (line : List ℕ) : Type 0 where
@@ -201,11 +229,6 @@ module _ (facility : List ℕ) (d : Due) (line : List ℕ) where
 
   pub due-shape : dueFault facility d line ≡ 0 → shapeFault (d .type) line ≡ 0
   due-shape e = common-shape facility (d .type) line (due-right e .common)
-
--- GAS and a blank value go together
-pub gas-together : (hour line : List ℕ) → gasFault true hour line ≡ 0 → hasGas line ≡ so2Blank hour
-unfolding gasFault
-gas-together hour line e = agreed (hasGas line) (so2Blank hour) (unless-zero (agree (hasGas line) (so2Blank hour)) 48 e)
 
 -- columns of a line are columns of the file
 take-drop-take : (w a m : ℕ) (l : List ℕ) → a + w ≤ m → take w (drop a (take m l)) ≡ take w (drop a l)

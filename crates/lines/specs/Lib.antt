@@ -6,5 +6,8 @@ pub mod FaultLaws
 pub mod OperationLaws
 pub mod Beginning
 pub mod Examples
-pub mod Shows
-pub mod ShowsLaws
+pub mod RightLine
+pub mod RightLaws
+pub mod WidthExamples
+pub mod Clauses
+pub mod ClauseLaws

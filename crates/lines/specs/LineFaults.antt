@@ -14,8 +14,8 @@ use Rattle.columns.specs.declared.Field.{Field}
 use Rattle.columns.specs.declared.Field.the-variants.{Blank, Malformed, Number}
 use Rattle.calendar.specs.declared.QuarterHour.{QuarterHour}
 use Rattle.calendar.specs.declared.QuarterHour.the-variants.{At, Outside}
-use Rattle.layout.specs.Layout.{typeWidth, typeDigits, stackStart, stackWidth, dateWidth, yearDigits, quarterDigit, lengthOf}
-use Rattle.layout.specs.Layout.{recordOf, dateColumn, valuesOf, so2Ppm, listedTime, heatRate, gasStart, gasWord, inRange, wholeSteps, within}
+use Rattle.layout.specs.Layout.{typeWidth, typeDigits, stackStart, stackWidth, dateWidth, lengthOf, recordOf, dateColumn, valuesOf, gasStart, gasWord}
+use Rattle.layout.specs.Values.{yearDigits, quarterDigit, so2Ppm, listedTime, heatRate, inRange, wholeSteps, within}
 use Rattle.stamp.specs.Stamp.{stampHour}
 use Rattle.layout.specs.declared.RecordType.{RecordType}
 use Rattle.layout.specs.declared.RecordType.the-variants.{Facility, So2Concentration, Operation}
@@ -104,9 +104,13 @@ hourNumber (At hour) = hour
 abbrev pub hourIn : Period → RecordType → List ℕ → ℕ
 hourIn period t line = hourNumber (hourOn period t line)
 
+-- what a line with this fault says of its hour
+abbrev pub hourSaid : (fault hour : ℕ) → HourLine
+hourSaid zero hour = OfHour hour
+hourSaid (suc c) hour = FaultyHour (suc c)
+
 unfoldable pub datedLine : List ℕ → Period → RecordType → ℕ → List ℕ → HourLine
-datedLine facility period t from line =
-    elim (datedFault facility period t from line) [ zero ↦ OfHour (hourIn period t line) | suc c ↦ FaultyHour (suc c) ]
+datedLine facility period t from line = hourSaid (datedFault facility period t from line) (hourIn period t line)
 
 -- a 200 line: behind them, its value, which may be blank here; whether it has to be, the 310 line of its rank says
 
@@ -119,8 +123,7 @@ unfoldable pub hourFault : List ℕ → Period → ℕ → List ℕ → ℕ
 hourFault facility period from line = datedFault facility period So2Concentration from line orElse so2Fault (fieldIn so2Ppm line)
 
 unfoldable pub hourLine : List ℕ → Period → ℕ → List ℕ → HourLine
-hourLine facility period from line =
-    elim (hourFault facility period from line) [ zero ↦ OfHour (hourIn period So2Concentration line) | suc c ↦ FaultyHour (suc c) ]
+hourLine facility period from line = hourSaid (hourFault facility period from line) (hourIn period So2Concentration line)
 
 -- a line that is due: its type, and the 200 line of its rank, by which it is judged; no line where its type has no date
 pub record Due : Type 0 where
@@ -179,7 +182,7 @@ timedFault date line =
 unfoldable pub operationFault : List ℕ → Period → ℕ → List ℕ → List ℕ → ℕ
 operationFault facility period from date line = datedFault facility period Operation from line orElse timedFault date line
 
--- what a line with this fault says of its hour
+-- what it says with this fault
 unfoldable pub saidOf : ℕ → OperationLine → OperationLine
 saidOf zero hour = hour
 saidOf (suc c) hour = FaultyOperation (suc c)

@@ -1,5 +1,5 @@
 -- What a 300 line without fault is like: its hour, its time, and, where it operates, its date and its heat.
-use Prim.Native.Nat.{ℕ, zero, suc, _≤_}
+use Prim.Native.Nat.{ℕ, zero, suc}
 use mathlib.Core.Path.{_≡_, refl, ap, _∙_}
 use mathlib.Core.List.{List, []}
 use mathlib.Core.Bool.{Bool, true, false, cond}
@@ -14,12 +14,12 @@ use Rattle.columns.specs.ColumnsLaws.{columns-length}
 use Rattle.columns.specs.Number.{numberOf}
 use Rattle.columns.specs.declared.Field.{Field}
 use Rattle.columns.specs.declared.Field.the-variants.{Blank, Malformed, Number}
-use Rattle.layout.specs.Layout.{dateColumn, dateWidth, valuesOf, timeHours, listedTime, heatRate}
+use Rattle.layout.specs.Layout.{dateColumn, dateWidth, valuesOf}
+use Rattle.layout.specs.Values.{timeHours, listedTime, heatRate}
 use Rattle.layout.specs.declared.RecordType.the-variants.{So2Concentration, Operation}
-use Rattle.lines.specs.LineFaults.{shapeFault, fieldFault, fieldIn, valuesFault, dateOn, risingFault, hourOn, datedFault, hourIn}
-use Rattle.lines.specs.LineFaults.{dateFault, dueOf}
+use Rattle.lines.specs.LineFaults.{shapeFault, fieldFault, fieldIn, valuesFault, dateOn, risingFault, hourOn, datedFault, hourIn, dateFault, dueOf}
 use Rattle.lines.specs.LineFaults.{timeIn, operates, idleFault, operatingFault, timedFault, operationFault, saidOf, operationLine}
-use Rattle.lines.specs.FaultLaws.{shape-length, field-within, field-right, dated-shape, dated-earlier, DueRight}
+use Rattle.lines.specs.FaultLaws.{shape-length, field-within, field-right, field-formed, ValuesFormed, dated-shape, DueRight}
 use Rattle.lines.specs.declared.Period.{Period}
 use Rattle.lines.specs.declared.operation.OperationLine.the-variants.{Operating, Idle}
 
@@ -30,7 +30,7 @@ time-right Blank e o = e
 time-right Malformed e o = e
 time-right (Number k) e o =
     let w = field-within listedTime (Number k) e in
-    field-right timeHours k (record { least = ltb-true 0 k o; most = w .most; whole = w .whole })
+    field-right timeHours k (record { least = ltb-true 0 k o; most = w .most; steps = w .steps })
 
 module _ (facility : List ℕ) (period : Period) (from : ℕ) (date line : List ℕ) (e : operationFault facility period from date line ≡ 0) where
   pub operation-dated : datedFault facility period Operation from line ≡ 0
@@ -43,11 +43,6 @@ module _ (facility : List ℕ) (period : Period) (from : ℕ) (date line : List 
 
   pub operation-shape : shapeFault Operation line ≡ 0
   operation-shape = dated-shape facility period Operation from line operation-dated
-
-  -- it has none either where an earlier hour may follow
-  pub operation-earlier : (earlier : ℕ) → earlier ≤ from → operationFault facility period earlier date line ≡ 0
-  unfolding operationFault
-  operation-earlier earlier h = rw (dated-earlier facility period Operation from line operation-dated earlier h, operation-timed)
 
   timed-parts : (fieldFault listedTime (timeIn line) ≡ 0) × (cond (operates line) (operatingFault date line) (idleFault (fieldIn heatRate line)) ≡ 0)
   unfolding timedFault
@@ -75,6 +70,23 @@ module _ (facility : List ℕ) (period : Period) (from : ℕ) (date line : List 
         let l = columns-length (dateColumn Operation) dateWidth line (omega (arith, shape-length Operation line operation-shape)) in
         let n : length (dateOn Operation line) ≡ 0 = ap length (operating-date ∙ z) in
         omega arith
+
+  -- operating or idle, none of its values is malformed
+  idle-formed : (f : Field) → idleFault f ≡ 0 → f ≡ Malformed → ⊥
+  unfolding idleFault
+  idle-formed f z m = let y : idleFault Malformed ≡ 0 = rw m at z in omega arith
+
+  heat-formed : fieldIn heatRate line ≡ Malformed → ⊥
+  heat-formed = go (operates line) refl
+    where
+      go : (b : Bool) → operates line ≡ b → fieldIn heatRate line ≡ Malformed → ⊥
+      go true o = field-formed heatRate (fieldIn heatRate line) (operating-parts o .1)
+      go false o = idle-formed (fieldIn heatRate line) (rw o at (timed-parts .1))
+
+  pub operation-formed : ValuesFormed Operation line
+  operation-formed zero h = field-formed listedTime (timeIn line) (timed-parts .0)
+  operation-formed (suc zero) h = heat-formed
+  operation-formed (suc (suc i)) h = absurd (omega arith)
 
 -- what it says, it says without fault
 module _ (facility : List ℕ) (period : Period) (from : ℕ) (date line : List ℕ) where
@@ -128,7 +140,7 @@ module _ (facility : List ℕ) (period : Period) (from : ℕ) (hour line : List 
   time-listed Malformed z = absurd (omega arith)
   time-listed (Number k) z =
       let w = field-within timeHours (Number k) z in
-      (field-right listedTime k (record { least = omega arith; most = w .most; whole = w .whole }), lt-ltb 0 k (w .least))
+      (field-right listedTime k (record { least = omega arith; most = w .most; steps = w .steps }), lt-ltb 0 k (w .least))
 
   pub due-operates : operates line ≡ true
   unfolding operates

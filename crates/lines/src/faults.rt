@@ -8,8 +8,7 @@ ghost use mathlib.Core.Path.{_≡_};
 ghost use Prim.Native.Nat.{_+_, _-_, _≤_};
 ghost use lib.ListN.{length};
 ghost use Rattle.columns.specs.Columns.{Inside};
-ghost use Rattle.layout.specs.Layout.{lengthOf, valuesOf, dateWidth};
-ghost use Rattle.layout.specs.ValueLaws.{ValueInside};
+ghost use Rattle.layout.specs.Layout.{lengthOf, valuesOf, dateWidth, ValueInside};
 ghost use Rattle.lines.specs.Lines.{firstLine};
 ghost use Rattle.lines.specs.LineFaults.{stackFault, commonFault, digitsIn, fieldFault, fieldIn, valuesFault, dateOn, dateFault};
 

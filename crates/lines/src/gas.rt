@@ -7,7 +7,8 @@ ghost use mathlib.Core.Path.{_≡_};
 ghost use mathlib.Core.Bool.{true};
 ghost use Prim.Native.Nat.{_≤_};
 ghost use lib.ListN.{length};
-ghost use Rattle.layout.specs.Layout.{lengthOf, so2Ppm};
+ghost use Rattle.layout.specs.Layout.{lengthOf};
+ghost use Rattle.layout.specs.Values.{so2Ppm};
 ghost use Rattle.lines.specs.LineFaults.{fieldIn, so2Fault, hasGas, so2Blank, gasFault};
 
 // Whether a 310 line has GAS.

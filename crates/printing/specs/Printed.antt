@@ -4,7 +4,7 @@ use mathlib.Core.List.{List, [], _∷_, _++_}
 use mathlib.Core.Bool.{true, false}
 use lib.Dec.{ltb}
 use Rattle.columns.specs.Written.{digitsOf}
-use Rattle.checker.specs.Checked.{numbersOf}
+use Rattle.checker.specs.Checked.{answerNumbers}
 use Rattle.checker.specs.declared.Answer.{Answer}
 use Rattle.checker.specs.declared.Answer.the-variants.{Accepted, Refused}
 
@@ -36,7 +36,7 @@ outcomeWord (Accepted quarter) = 97 ∷ 99 ∷ 99 ∷ 101 ∷ 112 ∷ 116 ∷ 10
 outcomeWord (Refused refusal) = 114 ∷ 101 ∷ 102 ∷ 117 ∷ 115 ∷ 101 ∷ 100 ∷ []
 
 abbrev pub printed : Answer → List ℕ
-printed answer = printedLine (outcomeWord answer) (numbersOf answer)
+printed answer = printedLine (outcomeWord answer) (answerNumbers answer)
 
 -- no line has more numbers
 abbrev pub mostNumbers : ℕ

@@ -31,7 +31,7 @@ hoursWhole file period = walkHours (facilityOf file) period 2 0 [] (lines (drop 
 
 -- n 200 lines are read, the next is at `at` and has at least the hour `from`
 pub record Rising (file : List ℕ) (period : Period) (n from at : ℕ) : Type 0 where
-  pub place : at ≡ hourStart n
+  pub start : at ≡ hourStart n
   pub room : hourStart n ≤ length file + 1
   pub rise : n ≤ from
   pub most : from ≤ mostHours
@@ -39,7 +39,7 @@ pub record Rising (file : List ℕ) (period : Period) (n from at : ℕ) : Type 0
 
 pub rising-start : (file : List ℕ) (period : Period) → lengthOf Facility ≤ length file → Rising file period 0 0 (hourStart 0)
 unfolding hourLinesIn
-rising-start file period h = record { place = refl; room = omega arith; rise = omega arith; most = omega arith; left = refl }
+rising-start file period h = record { start = refl; room = omega arith; rise = omega arith; most = omega arith; left = refl }
 
 module _ (file : List ℕ) (period : Period) (n from at : ℕ) (w : Rising file period n from at) where
   pub rising-counted : Counted file n
@@ -48,7 +48,7 @@ module _ (file : List ℕ) (period : Period) (n from at : ℕ) (w : Rising file 
   later : walkHours (facilityOf file) period (2 + n) from (hourLinesIn file n) (lines (drop at file))
       ≡ walkLater (facilityOf file) period (2 + n) (hourLinesIn file n) (lines (drop at file)) →
       laterWhole file period n ≡ hoursWhole file period
-  later e = rw (← w .place) (sym e ∙ w .left)
+  later e = rw (← w .start) (sym e ∙ w .left)
 
   pub rising-end : length file ≤ at → laterWhole file period n ≡ hoursWhole file period
   unfolding walkHours
@@ -99,7 +99,7 @@ module _ (file : List ℕ) (period : Period) (n from at : ℕ) (w : Rising file 
 
         -- the 200 line of rank n is where it is looked for later
         line-there : firstLine (drop at file) ≡ hourLineIn file n
-        line-there = line-at file at (lengthOf So2Concentration) long ∙ rw (w .place)
+        line-there = line-at file at (lengthOf So2Concentration) long ∙ rw (w .start)
 
         pub rising-next : IsQuarter (period .quarter) → Rising file period (n + 1) (hour + 1) (at + (lengthOf So2Concentration + 1))
         unfolding hourLinesIn
@@ -107,8 +107,8 @@ module _ (file : List ℕ) (period : Period) (n from at : ℕ) (w : Rising file 
             let b = rising-below q in
             let s : 2 + n + 1 ≡ 2 + suc n = omega arith in
             record {
-              place = omega (arith, w .place);
-              room = omega (arith, rising-room, w .place);
+              start = omega (arith, w .start);
+              room = omega (arith, rising-room, w .start);
               rise = omega (arith, w .rise);
               most = omega arith;
               left = rw (add-one n) (sym (judged ∙ ap after e ∙ rw (long, line-there, s)) ∙ w .left);

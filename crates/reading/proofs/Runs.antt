@@ -1,22 +1,22 @@
 -- The lines that are due behind the 200 lines: type by type, and rank by rank.
 use Prim.Native.Nat.{ℕ, zero, suc, _+_, _*_, _-_, _≤_, _<_}
-use mathlib.Core.Path.{_≡_, refl, sym, ap, _∙_}
+use mathlib.Core.Path.{_≡_, ap, _∙_}
+use mathlib.Core.Logic.{⊎-elim}
 use mathlib.Core.List.{List, [], _∷_, _++_, map}
 use native.Mathlib.Omega.{arith}
 use native.Mathlib.Nat.{add-sub-cancel-left}
 use native.Mathlib.Numerals.{add-one}
 use lib.ListN.{length, take, drop, getD, length-map, drop-of-length-le, List·getD-map, length-drop}
 use lib.Seq.{drop-cons, getD-take, length-take-le}
-use Rattle.layout.specs.Layout.{recordOf, lengthOf, dateColumn, rowOf, order, typeAt, linesOf, countOf, shape}
-use Rattle.layout.specs.LayoutLaws.{once-undated}
+use Rattle.layout.specs.Layout.{onceOrDated, recordOf, lengthOf, dateColumn, order, typeAt, countOf, shape}
+use Rattle.layout.specs.RunLaws.{once-or-dated, undated-once, dated-run, dated-count}
 use Rattle.layout.specs.declared.RecordType.{RecordType}
 use Rattle.layout.specs.declared.RecordType.the-variants.{Facility, So2Concentration}
 use Rattle.layout.specs.declared.Run.{Run}
-use Rattle.layout.specs.declared.Run.the-variants.{Once, Hourly, Listed}
-use Rattle.layout.specs.declared.Row.{Row}
+use Rattle.layout.specs.declared.Run.the-variants.{Once}
 use Rattle.lines.specs.LineFaults.{dueOf}
-use Rattle.reading.specs.Reading.{hoursDue, runOf, runsOf}
-use Rattle.reading.specs.Places.{hourStart, hourLineIn, hourLinesIn, hourFor, hourDue, Counted}
+use Rattle.reading.specs.Reading.{runOf, runsOf}
+use Rattle.reading.specs.Places.{hourStart, hourLineIn, hourLinesIn, hourDue, Counted}
 use Rattle.reading.specs.HourLineLaws.{hour-lines-length, hour-lines-at}
 
 -- of the 200 lines from rank k on: the first, and that none is left
@@ -45,36 +45,32 @@ module _ (file : List ℕ) (n : ℕ) (t : RecordType) (k : ℕ) where
 module _ (file : List ℕ) (n : ℕ) (t : RecordType) (k : ℕ) where
   pub run-one : k < countOf (shape n) t → drop k (runOf t (hourLinesIn file n)) ≡ dueOf t (hourDue file t k) ∷ drop (k + 1) (runOf t (hourLinesIn file n))
   unfolding runOf hourDue
-  run-one = go (recordOf t .run) k
+  run-one h =
+      ⊎-elim (λ e. one (recordOf t .run) e k (rw e at h))
+      (λ d. rw (dated-run t d ([] ∷ []) (hourLinesIn file n), dated-run t d [] (hourLineIn file k)) (due-one file n t k (rw (dated-count t d n) at h)))
+      (once-or-dated t)
     where
-      go : (run : Run) (i : ℕ) → i < linesOf run (shape n) →
-          drop i (map (dueOf t) (hoursDue run (hourLinesIn file n)))
-          ≡ dueOf t (hourFor run file i) ∷ drop (i + 1) (map (dueOf t) (hoursDue run (hourLinesIn file n)))
-      go Once zero h = refl
-      go Once (suc i) h = absurd (omega arith)
-      go Hourly i h = due-one file n t i h
-      go Listed i h = due-one file n t i h
+      one : (run : Run) → run ≡ Once → (i : ℕ) → i < 1 → let ls = map (dueOf t) (onceOrDated run ([] ∷ []) (hourLinesIn file n)) in
+          drop i ls ≡ dueOf t (onceOrDated run [] (hourLineIn file i)) ∷ drop (i + 1) ls
+      one run e zero h = rw e
+      one run e (suc i) h = absurd (omega arith)
 
   pub run-end : countOf (shape n) t ≤ k → drop k (runOf t (hourLinesIn file n)) ≡ []
   unfolding runOf
-  run-end = go (recordOf t .run)
-    where
-      go : (run : Run) → linesOf run (shape n) ≤ k → drop k (map (dueOf t) (hoursDue run (hourLinesIn file n))) ≡ []
-      go Once h = drop-of-length-le (dueOf t [] ∷ []) h
-      go Hourly h = due-end file n t k h
-      go Listed h = due-end file n t k h
+  run-end h =
+      ⊎-elim (λ e. let b : 1 ≤ k = rw e at h in rw e (drop-of-length-le (dueOf t [] ∷ []) b))
+      (λ d. rw (dated-run t d ([] ∷ []) (hourLinesIn file n)) (due-end file n t k (rw (dated-count t d n) at h)))
+      (once-or-dated t)
 
--- what a row says of its run, from the row that the code has
-module _ (t : RecordType) {r : Row} {run : Run} (e : r ≡ rowOf t) (f : r .run ≡ run) where
-  own-run : run ≡ recordOf t .run
-  own-run = sym f ∙ ap (λ (r : Row). r .run) e
-
-  pub run-lines : (n : ℕ) → countOf (shape n) t ≡ linesOf run (shape n)
-  run-lines n = ap (λ run. linesOf run (shape n)) (sym own-run)
-
-  pub run-hour : (file : List ℕ) (k : ℕ) → hourFor run file k ≡ hourDue file t k
+-- the 200 line for a type, by the column of its date
+module _ (file : List ℕ) (t : RecordType) (k : ℕ) where
+  pub undated-due : dateColumn t ≡ 0 → hourDue file t k ≡ []
   unfolding hourDue
-  run-hour file k = ap (λ run. hourFor run file k) own-run
+  undated-due e = rw (undated-once t e)
+
+  pub dated-due : 1 ≤ dateColumn t → hourDue file t k ≡ hourLineIn file k
+  unfolding hourDue
+  dated-due d = dated-run t d [] (hourLineIn file k)
 
 -- the 200 line of rank k, in bytes
 abbrev hourFrom : ℕ → ℕ
@@ -92,13 +88,7 @@ module _ (file : List ℕ) (n k : ℕ) (c : Counted file n) where
 
   -- a line with a date is judged by a whole 200 line
   pub due-long : (t : RecordType) → k < countOf (shape n) t → 1 ≤ dateColumn t → length (hourDue file t k) ≡ lengthOf So2Concentration
-  unfolding hourDue
-  due-long t = go (recordOf t .run) refl
-    where
-      go : (run : Run) → recordOf t .run ≡ run → k < linesOf run (shape n) → 1 ≤ dateColumn t → length (hourFor run file k) ≡ lengthOf So2Concentration
-      go Once e h d = absurd (omega (arith, d, once-undated t e))
-      go Hourly e h d = hour-long h
-      go Listed e h d = hour-long h
+  due-long t h d = rw (dated-due file t k d) (hour-long (rw (dated-count t d n) at h))
 
 -- the types that follow, up to the place `end`
 

@@ -6,7 +6,8 @@ use native.Mathlib.Omega.{arith}
 use lib.ListN.{length, drop, getD}
 use borrow.Author.Tests.{ne-eqb}
 use Rattle.calendar.specs.Calendar.{IsQuarter}
-use Rattle.layout.specs.Layout.{lengthOf, quarterDigit, Within}
+use Rattle.layout.specs.Layout.{lengthOf}
+use Rattle.layout.specs.Values.{quarterDigit, Within}
 use Rattle.layout.specs.declared.RecordType.the-variants.{Facility}
 use Rattle.stamp.specs.StampLaws.{is-quarter}
 use Rattle.lines.specs.Lines.{firstLine, lines, last}

@@ -6,14 +6,13 @@ use mathlib.Core.Bool.{Bool, true, false, cond}
 use mathlib.Core.List.{List, [], _∷_, _++_}
 use lib.ListN.{length, take, drop}
 use Rattle.calendar.specs.Calendar.{mostHours}
-use Rattle.layout.specs.Layout.{recordOf, lengthOf, countOf, lineOf, offsetOf, reportLength, Held, shape}
+use Rattle.layout.specs.Layout.{onceOrDated, recordOf, lengthOf, countOf, lineOf, offsetOf, reportLength, Held, shape}
 use Rattle.layout.specs.declared.RecordType.{RecordType}
 use Rattle.layout.specs.declared.RecordType.the-variants.{Facility, So2Concentration, Operation}
-use Rattle.layout.specs.declared.Run.{Run}
-use Rattle.layout.specs.declared.Run.the-variants.{Once, Hourly, Listed}
 use Rattle.layout.specs.declared.Shape.{Shape}
 use Rattle.lines.specs.Lines.{lines}
 use Rattle.lines.specs.LineFaults.{typeIs, operates}
+use Rattle.lines.specs.FaultLaws.{ValuesFormed}
 use Rattle.reading.specs.Recorded.{Line, linesWith, recordsOf, recordAt}
 
 abbrev pub facilityOf : List ℕ → List ℕ
@@ -32,19 +31,19 @@ unfoldable pub hourLinesIn : List ℕ → ℕ → List (List ℕ)
 hourLinesIn file zero = []
 hourLinesIn file (suc n) = hourLinesIn file n ++ (hourLineIn file n ∷ [])
 
+-- numbers that rise, from `from` on, and lie below a number
+abbrev pub Rising : (below from : ℕ) → List ℕ → Type 0
+Rising below from [] = Unit {0}
+Rising below from (h ∷ hs) = (from ≤ h) × (h < below) × Rising below (suc h) hs
+
 -- n 200 lines are read
 pub record Counted (file : List ℕ) (n : ℕ) : Type 0 where
   pub most : n ≤ mostHours
   pub room : hourStart n ≤ length file + 1
 
 -- the 200 line by which the line of rank k of a type is judged
-abbrev pub hourFor : Run → List ℕ → ℕ → List ℕ
-hourFor Once file k = []
-hourFor Hourly file k = hourLineIn file k
-hourFor Listed file k = hourLineIn file k
-
 unfoldable pub hourDue : List ℕ → RecordType → ℕ → List ℕ
-hourDue file t k = hourFor (recordOf t .run) file k
+hourDue file t k = onceOrDated (recordOf t .run) [] (hourLineIn file k)
 
 -- so many lines of a type from this place of the file on
 unfoldable pub linesAt : List ℕ → RecordType → (at : ℕ) → ℕ → List (List ℕ)
@@ -65,11 +64,12 @@ having test (l ∷ ls) = elim (test (l .text)) [ true ↦ l ∷ having test ls |
 abbrev pub lineAt : List ℕ → Shape → RecordType → ℕ → Line
 lineAt file s t p = record { number = lineOf s t p; text = take (lengthOf t) (drop (offsetOf s t p) file) }
 
--- the lines of a type stand where the layout has them; of the 300 lines as many operate as there are hours
+-- the lines of a type stand where the layout has them, and none of their values is malformed; of the 300 lines as many operate as there are hours
 pub record Standing (file : List ℕ) (s : Shape) : Type 0 where
   pub size : length file ≡ reportLength s
   pub held : Held s
   pub lines : (t : RecordType) → linesWith (typeIs t) 1 (lines file) ≡ numbered (lineOf s t 0) (linesAt file t (offsetOf s t 0) (countOf s t))
+  pub formed : (t : RecordType) (p : ℕ) → p < countOf s t → ValuesFormed t (lineAt file s t p .text)
   pub operating : length (recordsOf file Operation) ≡ s .hours
 
 -- the record of rank k stands at place p

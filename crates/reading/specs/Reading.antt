@@ -4,11 +4,9 @@ use mathlib.Core.List.{List, [], _∷_, _++_, map}
 use mathlib.Core.Bool.{true, false}
 use lib.Dec.{eqb}
 use lib.ListN.{length, drop, getD}
-use Rattle.layout.specs.Layout.{recordOf, typesBetween, later, shapeWith}
+use Rattle.layout.specs.Layout.{onceOrDated, recordOf, typesBetween, later, shapeWith}
 use Rattle.layout.specs.declared.RecordType.{RecordType}
 use Rattle.layout.specs.declared.RecordType.the-variants.{So2Concentration, Operation}
-use Rattle.layout.specs.declared.Run.{Run}
-use Rattle.layout.specs.declared.Run.the-variants.{Once, Hourly, Listed}
 use Rattle.layout.specs.declared.Shape.{Shape}
 use Rattle.lines.specs.Lines.{lines, last}
 use Rattle.lines.specs.LineFaults.{typeIs, facilityLine, dateOn, hourLine, Due, dueOf, dueFault, operationLine}
@@ -31,14 +29,12 @@ firstTypes = typesBetween So2Concentration Operation
 abbrev pub lastTypes : List RecordType
 lastTypes = later Operation
 
--- the 200 lines by which the lines of a run are judged: that of each rank, or none for a line without date
-abbrev pub hoursDue : Run → List (List ℕ) → List (List ℕ)
-hoursDue Once hours = [] ∷ []
-hoursDue Hourly hours = hours
-hoursDue Listed hours = hours
+-- the 200 lines by which the lines of a type are judged: that of each rank, or none for a line without date
+abbrev pub hoursDue : RecordType → List (List ℕ) → List (List ℕ)
+hoursDue t hours = onceOrDated (recordOf t .run) ([] ∷ []) hours
 
 unfoldable pub runOf : RecordType → List (List ℕ) → List Due
-runOf t hours = map (dueOf t) (hoursDue (recordOf t .run) hours)
+runOf t hours = map (dueOf t) (hoursDue t hours)
 
 unfoldable pub runsOf : List RecordType → List (List ℕ) → List Due
 runsOf [] hours = []

@@ -30,8 +30,7 @@ use Rattle.lines.specs.FaultLaws.{columns-of-line}
 use Rattle.reading.specs.Recorded.{Line, linesWith, idle, recordOfType, recordsOf, hourCount}
 use Rattle.reading.specs.RecordedLaws.{typed-idle}
 use Rattle.reading.specs.Places.{linesAt, numbered, having, lineAt, Standing, Stands}
-use Rattle.reading.specs.RunLaws.{LineRun, AllOf, Typed, joined, runsFrom, order-chosen, numbered-length, numbered-at}
-use Rattle.reading.specs.RunLaws.{with-both, same-tests, having-at}
+use Rattle.reading.specs.RunLaws.{LineRun, AllOf, Typed, joined, runsFrom, order-chosen, numbered-length, numbered-at, with-both, same-tests, having-at}
 use Rattle.reading.specs.CleanLaws.{LineRight, RunsRight}
 
 -- so many lines of a type
@@ -78,7 +77,7 @@ module _ (file : List ℕ) (ends : last file ≡ 10) (facility : List ℕ) where
     unfolding RunsRight totalOf
     runs-lines [] at r = let z : at + 0 ≡ at = omega arith in (rw z, tt)
     runs-lines (t ∷ ts) at r =
-        let f = run-lines t (countOf s t) at (λ k h. r .0 k h .0) in
+        let f = run-lines t (countOf s t) at (r .0) in
         let i = runs-lines ts (at + bytesOf s t) (r .1) in
         let z : at + bytesOf s t + totalOf (bytesOf s) ts ≡ at + (bytesOf s t + totalOf (bytesOf s) ts) = omega arith in (
           f .0

@@ -6,7 +6,8 @@ use mathlib.Core.Bool.{Bool, true, false, not, _&&_}
 use lib.ListN.{length, getD}
 use Rattle.exact.specs.Logic.{ranked}
 use Rattle.columns.specs.Number.{numberOf}
-use Rattle.layout.specs.Layout.{thousandsOf, valueAt}
+use Rattle.layout.specs.Layout.{valueAt}
+use Rattle.layout.specs.Values.{thousandsOf}
 use Rattle.layout.specs.declared.RecordType.{RecordType}
 use Rattle.layout.specs.declared.RecordType.the-variants.{So2Concentration, NoxConcentration, Co2Concentration, VolumetricFlow, Operation}
 use Rattle.layout.specs.declared.RecordType.the-variants.{QuarterTotals, So2Mass, NoxRate, Co2Mass}

@@ -2,18 +2,17 @@
 use Prim.Native.Nat.{ℕ, zero, suc, _+_, _<_}
 use mathlib.Core.Path.{_≡_, refl, ap, _∙_}
 use mathlib.Core.List.{List, [], _∷_, _++_, append-nil}
-use mathlib.Core.Bool.{Bool, true, false, cond, not, _&&_}
+use mathlib.Core.Bool.{Bool, true, false, not, _&&_}
 use native.Mathlib.Omega.{arith}
 use native.Mathlib.Nat.{le-of-suc-le-suc, not-suc-le-zero}
-use native.Mathlib.Numerals.{add-one}
 use lib.Dec.{eqb}
-use lib.ListN.{length, take, drop, getD}
-use borrow.Author.Tests.{eqb-true}
+use lib.ListN.{length, getD}
+use borrow.Author.Tests.{eq-eqb, not-true}
 use Rattle.exact.specs.Sums.{totalOf}
-use Rattle.layout.specs.Layout.{codeOf, order, placeOf, rankOf, earlier}
+use Rattle.layout.specs.Layout.{codeOf, order, earlier, later}
 use Rattle.exact.specs.Logic.{both, All}
-use Rattle.layout.specs.LayoutLaws.{in-order}
-use Rattle.layout.specs.TypeLaws.{code-tells, absent, only-once}
+use Rattle.layout.specs.PlaceLaws.{order-split}
+use Rattle.layout.specs.TypeLaws.{absent, only-once}
 use Rattle.layout.specs.declared.RecordType.{RecordType}
 use Rattle.lines.specs.LineFaults.{typeIs}
 use Rattle.lines.specs.FaultLaws.{type-same}
@@ -83,57 +82,42 @@ module _ (texts : ℕ → RecordType → List (List ℕ)) (count size : RecordTy
   runsFrom [] at = []
   runsFrom (t ∷ ts) at = record { type = t; texts = texts at t } ∷ runsFrom ts (at + size t)
 
+  -- the first run is the type's own, or not
+  first : (t u : RecordType) (us : List RecordType) (number at : ℕ) (b : Bool) → eqb (codeOf u) (codeOf t) ≡ b →
+      let rest = chosen t (number + length (texts at u)) (runsFrom us (at + size u)) in
+      chosen t number (runsFrom (u ∷ us) at) ≡ elim b [ true ↦ numbered number (texts at u) ++ rest | false ↦ rest ]
+  first t u us number at b e =
+      let rest = chosen t (number + length (texts at u)) (runsFrom us (at + size u)) in
+      ap (λ (q : Bool). elim q [ true ↦ numbered number (texts at u) ++ rest | false ↦ rest ]) e
+
   none-chosen : (t : RecordType) (ts : List RecordType) (number at : ℕ) → absent (codeOf t) ts ≡ true → chosen t number (runsFrom ts at) ≡ []
   none-chosen t [] number at e = refl
   none-chosen t (u ∷ us) number at e =
       let f = both (not (eqb (codeOf u) (codeOf t))) (absent (codeOf t) us) e in
-      go (eqb (codeOf u) (codeOf t)) (f .0) (none-chosen t us (number + length (texts at u)) (at + size u) (f .1))
-    where
-      rest : List Line
-      rest = chosen t (number + length (texts at u)) (runsFrom us (at + size u))
-
-      go : (b : Bool) → not b ≡ true → rest ≡ [] → _≡_ {A = List Line} (elim b [ true ↦ numbered number (texts at u) ++ rest | false ↦ rest ]) []
-      go true f i = absurd (let z : _≡_ {A = ℕ} 0 1 = cc in omega arith)
-      go false f i = i
+      first t u us number at false (not-true _ (f .0)) ∙ none-chosen t us (number + length (texts at u)) (at + size u) (f .1)
 
   -- a type that stands once among them
-  one-chosen : (t : RecordType) (ts : List RecordType) (number at : ℕ) → placeOf (codeOf t) ts < length ts →
-      absent (codeOf t) (drop (suc (placeOf (codeOf t) ts)) ts) ≡ true →
-      chosen t number (runsFrom ts at)
-      ≡ numbered (number + totalOf count (take (placeOf (codeOf t) ts) ts)) (texts (at + totalOf size (take (placeOf (codeOf t) ts) ts)) t)
+  one-chosen : (t : RecordType) (ts us : List RecordType) (number at : ℕ) → absent (codeOf t) ts ≡ true → absent (codeOf t) us ≡ true →
+      chosen t number (runsFrom (ts ++ (t ∷ us)) at) ≡ numbered (number + totalOf count ts) (texts (at + totalOf size ts) t)
   unfolding totalOf
-  one-chosen t [] number at h n = absurd (not-suc-le-zero h)
-  one-chosen t (u ∷ us) number at h n = go (eqb (codeOf u) (codeOf t)) refl h n (one-chosen t us (number + length (texts at u)) (at + size u))
-    where
-      place : ℕ
-      place = placeOf (codeOf t) us
-
-      rest : List Line
-      rest = chosen t (number + length (texts at u)) (runsFrom us (at + size u))
-
-      go : (b : Bool) → eqb (codeOf u) (codeOf t) ≡ b → cond b 0 (suc place) < length (u ∷ us) →
-          absent (codeOf t) (drop (suc (cond b 0 (suc place))) (u ∷ us)) ≡ true →
-          (place < length us → absent (codeOf t) (drop (suc place) us) ≡ true →
-          rest ≡ numbered (number + length (texts at u) + totalOf count (take place us)) (texts (at + size u + totalOf size (take place us)) t)) →
-          elim b [ true ↦ numbered number (texts at u) ++ rest | false ↦ rest ]
-          ≡ numbered (number + totalOf count (take (cond b 0 (suc place)) (u ∷ us))) (texts (at + totalOf size (take (cond b 0 (suc place)) (u ∷ us))) t)
-      go true e k m i =
-          let s = code-tells u t (eqb-true (codeOf u) (codeOf t) e) in
-          let z : number + 0 ≡ number = omega arith in
-          let y : at + 0 ≡ at = omega arith in
-          rw (none-chosen t us (number + length (texts at u)) (at + size u) m, append-nil, z, y) (ap (λ v. numbered number (texts at v)) s)
-      go false e k m i =
-          let z : number + length (texts at u) + totalOf count (take place us) ≡ number + (count u + totalOf count (take place us)) =
-          omega (arith, counted at u) in
-          let y : at + size u + totalOf size (take place us) ≡ at + (size u + totalOf size (take place us)) = omega arith in
-          rw (← z, ← y) (i (le-of-suc-le-suc k) m)
+  one-chosen t [] us number at a b =
+      let z : number + 0 ≡ number = omega arith in
+      let y : at + 0 ≡ at = omega arith in
+      first t t us number at true (eq-eqb (codeOf t) (codeOf t) refl) ∙ rw (none-chosen t us (number + length (texts at t)) (at + size t) b, append-nil, z, y)
+  one-chosen t (u ∷ ts) us number at a b =
+      let f = both (not (eqb (codeOf u) (codeOf t))) (absent (codeOf t) ts) a in
+      let z : number + length (texts at u) + totalOf count ts ≡ number + (count u + totalOf count ts) = omega (arith, counted at u) in
+      let y : at + size u + totalOf size ts ≡ at + (size u + totalOf size ts) = omega arith in
+      first t u (ts ++ (t ∷ us)) number at false (not-true (eqb (codeOf u) (codeOf t)) (f .0))
+      ∙ rw (← z, ← y) (one-chosen t ts us (number + length (texts at u)) (at + size u) (f .1) b)
 
   -- of runs in the order of a report
   pub order-chosen : (t : RecordType) (number at : ℕ) → Typed (runsFrom order at) →
       linesWith (typeIs t) number (joined (runsFrom order at)) ≡ numbered (number + totalOf count (earlier t)) (texts (at + totalOf size (earlier t)) t)
   order-chosen t number at a =
       runs-chosen t (runsFrom order at) number a
-      ∙ one-chosen t order number at (in-order t .0) (rw (add-one (rankOf t)) at (only-once t))
+      ∙ ap (λ (ts : List RecordType). chosen t number (runsFrom ts at)) (order-split t)
+      ∙ one-chosen t (earlier t) (later t) number at (only-once t .0) (only-once t .1)
 
 -- a numbered list: as many lines, each with its place
 pub numbered-length : (ls : List (List ℕ)) (number : ℕ) → length (numbered number ls) ≡ length ls

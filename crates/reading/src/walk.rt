@@ -3,7 +3,6 @@ use crate::Reading;
 use crate::Refusal;
 use crate::Report;
 use layout::RecordType;
-use layout::Run;
 use layout::Shape;
 use lines::HourLine;
 use lines::Period;
@@ -63,11 +62,10 @@ fn hour_due(file: &[u8], t: RecordType, n: usize, k: usize) -> &[u8]
     requires { ⌜ Counted (now file) n × (k < countOf (shape n) t) ⌝ }
     ensures { λ r. ⌜ now r ≡ hourDue (now (file .entry)) t k ⌝ }
 {
-    let run = layout::row_of(t).run;
-    match run {
-        Run::Once => &file[..0],
-        Run::Hourly => hour_text(file, n, k),
-        Run::Listed => hour_text(file, n, k),
+    if layout::row_of(t).date == 0 {
+        &file[..0]
+    } else {
+        hour_text(file, n, k)
     }
 }
 

@@ -13,8 +13,7 @@ ghost use Rattle.columns.specs.Number.{numberOf};
 ghost use Rattle.layout.specs.Layout.{valueCount, valueAt, countOf};
 ghost use Rattle.lines.specs.LineFaults.{fieldIn, hasGas};
 ghost use Rattle.reading.specs.Recorded.{hourAt, totalsIn};
-ghost use Rattle.reading.specs.Places.{lineAt, Standing, operatingFrom, operatingPlace};
-ghost use Rattle.reading.specs.Places.{Stands};
+ghost use Rattle.reading.specs.Places.{lineAt, Standing, operatingFrom, operatingPlace, Stands};
 ghost use Rattle.recorded.specs.ListedHours.{listedHour};
 
 // The i-th value on the line at a place of a type's run, from 0, in a file of a shape whose lines are right.
@@ -24,7 +23,7 @@ fn value_in(file: &[u8], s: Shape, t: RecordType, p: usize, i: usize) -> u64
 {
     let v = layout::value_at(t, i);
     let start = layout::offset_of(s, t, p) + v.start;
-    columns::number_of(columns::read_number(file, start, v.width, v.decimals))
+    columns::worth(file, start, v.width, v.decimals)
 }
 
 // Whether the 310 line of operating hour k has GAS, in a file of a shape whose lines are right.

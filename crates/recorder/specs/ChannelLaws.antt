@@ -9,7 +9,7 @@ use lib.Pow.{pow-pos, pow-mono}
 use lib.Ieee.{Float}
 use lib.Ieee.Positive.{num, den, den-pos}
 use Rattle.exact.specs.Fraction.{Positive}
-use Rattle.layout.specs.Layout.{inRange}
+use Rattle.layout.specs.Values.{inRange}
 use Rattle.layout.specs.LayoutLaws.{in-range-true}
 use Rattle.layout.specs.declared.values.Value.{Value}
 use Rattle.sheet.specs.Sheet.{valueSize}

@@ -9,18 +9,17 @@ use lib.Ieee.{Float}
 use Rattle.exact.specs.Logic.{All}
 use Rattle.exact.specs.Fraction.{Fraction, whole}
 use Rattle.exact.specs.Rounding.{Records}
-use Rattle.layout.specs.Layout.{Within, so2Ppm, noxPpm, co2Percent, flowScfh}
+use Rattle.layout.specs.Values.{Within, so2Ppm, noxPpm, co2Percent, flowScfh}
 use Rattle.formulas.specs.Hour.{Monitored, setOf}
 use Rattle.formulas.specs.Formulas.{entryOf, RoundsTo}
 use Rattle.formulas.specs.declared.hour.Hour.{Hour}
 use Rattle.formulas.specs.declared.hour.Quantity.{Quantity}
 use Rattle.sheet.specs.Sheet.{hourWords, so2Kind, noxKind, co2Kind, flowKind, sheetKind, sheetHour, recordedReadings}
-use Rattle.recorder.specs.Recording.{exactOf, usable, channels, columnOf, recordingUnit, readingOf}
+use Rattle.recorder.specs.Recording.{exactOf, usable, channels, columnOf, recordingUnit, readingOf, recorderNumbers}
 use Rattle.recorder.specs.declared.RecorderReading.{RecorderReading}
 use Rattle.recorder.specs.declared.RecorderReading.the-variants.{Measured, Substituted, Absent}
 use Rattle.recorder.specs.declared.RecorderHour.{RecorderHour}
 use Rattle.recorder.specs.declared.HourWords.{HourWords}
-use Rattle.recorder.specs.declared.Recorded.{Recorded}
 use Rattle.recorder.specs.declared.Recorded.the-variants.{Words, Refused}
 use Rattle.recorder.specs.declared.Channel.{Channel}
 
@@ -105,10 +104,11 @@ pub record HourRefuses (h : RecorderHour) (number : ℕ) : Type 0 where
   pub good : All (λ c. Good c (readingOf c h)) before
   pub shows : ReadingShows channel (readingOf channel h) number
 
-pub record RecorderPromise (h : RecorderHour) (r : Recorded) : Type 0 where
-  pub given : (w : HourWords) → r ≡ Words w → (c : Channel) → Good c (readingOf c h)
-  pub rounds : (w : HourWords) → r ≡ Words w → (sheet : List ℕ) (k : ℕ) → StandIn w sheet k →
+-- what the promise is about: the numbers that an answer says
+pub record RecorderPromise (h : RecorderHour) (said : List ℕ) : Type 0 where
+  pub given : (w : HourWords) → said ≡ recorderNumbers (Words w) → (c : Channel) → Good c (readingOf c h)
+  pub rounds : (w : HourWords) → said ≡ recorderNumbers (Words w) → (sheet : List ℕ) (k : ℕ) → StandIn w sheet k →
       (hour : Hour) → HourOf sheet k hour → (q : Quantity) → RoundsTo q hour (entryOf q (setOf (unroundedOf h)))
-  pub taken : (w : HourWords) → r ≡ Words w → (sheet : List ℕ) (k : ℕ) → StandIn w sheet k → TakenIn sheet k
-  pub counted : (w : HourWords) → r ≡ Words w → w .substituted ≡ length (substitutedAmong h channels)
-  pub refused : (number : ℕ) → r ≡ Refused number → HourRefuses h number
+  pub taken : (w : HourWords) → said ≡ recorderNumbers (Words w) → (sheet : List ℕ) (k : ℕ) → StandIn w sheet k → TakenIn sheet k
+  pub counted : (w : HourWords) → said ≡ recorderNumbers (Words w) → w .substituted ≡ length (substitutedAmong h channels)
+  pub refused : (number : ℕ) → said ≡ recorderNumbers (Refused number) → HourRefuses h number

@@ -13,7 +13,7 @@ use Rattle.exact.specs.RoundingLaws.{records-halfUp, records-rounded}
 use Rattle.exact.specs.Sums.{totalOf}
 use Rattle.exact.specs.Faults.{_orElse_, unless}
 use Rattle.exact.specs.Logic.{All}
-use Rattle.layout.specs.Layout.{Within, inRange, thousandsOf}
+use Rattle.layout.specs.Values.{Within, inRange, thousandsOf}
 use Rattle.layout.specs.LayoutLaws.{in-range-true, true-in-range, thousands-back}
 use Rattle.formulas.specs.Hour.{setOf}
 use Rattle.formulas.specs.Formulas.{entryOf, RoundsTo}
@@ -24,7 +24,7 @@ use Rattle.formulas.specs.declared.hour.Quantity.the-variants.{Heat, So2 as So2
 use Rattle.sheet.specs.Sheet.{hourWords, valueSize, wordKind, wordValue, wordOf, sheetKind, sheetValue, sheetHour, recordedReadings}
 use Rattle.sheet.specs.SheetLaws.{word-kind, word-value}
 use Rattle.recorder.specs.Recording.{exactOf, usable, unitsIn, channels, kindOf, columnOf, recordingUnit, readingOf, columnNumber, floatFault, faultOf, wordFor}
-use Rattle.recorder.specs.Recording.{substitutedIn, wordsFor, recordedOf}
+use Rattle.recorder.specs.Recording.{substitutedIn, wordsFor, recordedOf, recorderNumbers}
 use Rattle.recorder.specs.Promise.{unroundedReading, unroundedOf, StandIn, TakenIn, HourOf, keepSubstituted, substitutedAmong}
 use Rattle.recorder.specs.Promise.{Reads, RecordsIn, Good, ReadingShows, absent, unusable, outside, HourRefuses, RecorderPromise}
 use Rattle.recorder.specs.ChannelLaws.{most-held}
@@ -33,7 +33,8 @@ use Rattle.recorder.specs.declared.RecorderReading.{RecorderReading}
 use Rattle.recorder.specs.declared.RecorderReading.the-variants.{Measured, Substituted, Absent}
 use Rattle.recorder.specs.declared.RecorderHour.{RecorderHour}
 use Rattle.recorder.specs.declared.HourWords.{HourWords}
-use Rattle.recorder.specs.declared.Recorded.the-variants.{Refused}
+use Rattle.recorder.specs.declared.Recorded.{Recorded}
+use Rattle.recorder.specs.declared.Recorded.the-variants.{Words, Refused}
 use Rattle.recorder.specs.declared.Channel.{Channel}
 use Rattle.recorder.specs.declared.Channel.the-variants.{So2, Nox, Co2, Flow}
 
@@ -83,7 +84,7 @@ module _ (c : Channel) (reading : RecorderReading) (x : Float) (reads : Reads re
             units = n;
             recorded = record {
               records = records-rounded (recordingUnit c) (exactOf x);
-              within = record { least = r .0; most = r .1; whole = whole-steps c n };
+              within = record { least = r .0; most = r .1; steps = whole-steps c n };
             };
           }
 
@@ -231,11 +232,24 @@ shown-number c reading _ (outside x r u o) = (lit≤ tt, lit≤ tt)
 pub recorder-numbers : (h : RecorderHour) (n : ℕ) → recordedOf h ≡ Refused n → (44 ≤ n) × (n ≤ 46)
 recorder-numbers h n e = let r = refusal-right h n e in shown-number (r .channel) (readingOf (r .channel) h) n (r .shows)
 
-pub hour-promise : (h : RecorderHour) → RecorderPromise h (recordedOf h)
-hour-promise h = record {
-  given = λ w e c. reading-good c (readingOf c h) (words-given h w e .none c);
-  rounds = λ w e sheet k s. rounds-there h w (words-given h w e) sheet k s;
-  taken = λ w e sheet k s. taken-there h w (words-given h w e) sheet k s;
-  counted = λ w e. ap (λ (v : HourWords). v .substituted) (sym (words-given h w e .words)) ∙ substituted-count h channels;
-  refused = refusal-right h;
-}
+-- the numbers that an answer says determine it
+says-words : (r : Recorded) (w : HourWords) → recorderNumbers r ≡ recorderNumbers (Words w) → r ≡ Words w
+says-words (Words v) w e =
+    let at : (k : ℕ) → getD (recorderNumbers (Words v)) k 0 ≡ getD (recorderNumbers (Words w)) k 0 = λ k. ap (λ (l : List ℕ). getD l k 0) e in
+    λ i. Words (record { so2 = at 0 i; nox = at 1 i; co2 = at 2 i; flow = at 3 i; substituted = at 4 i })
+says-words (Refused n) w e = absurd (let l = ap length e in omega arith)
+
+says-refused : (r : Recorded) (number : ℕ) → recorderNumbers r ≡ recorderNumbers (Refused number) → r ≡ Refused number
+says-refused (Words v) number e = absurd (let l = ap length e in omega arith)
+says-refused (Refused n) number e = let z : n ≡ number = ap (λ (l : List ℕ). getD l 0 0) e in ap Refused z
+
+pub hour-promise : (h : RecorderHour) → RecorderPromise h (recorderNumbers (recordedOf h))
+hour-promise h =
+    let words : (w : HourWords) → recorderNumbers (recordedOf h) ≡ recorderNumbers (Words w) → recordedOf h ≡ Words w = says-words (recordedOf h) in
+    record {
+      given = λ w e c. reading-good c (readingOf c h) (words-given h w (words w e) .none c);
+      rounds = λ w e sheet k s. rounds-there h w (words-given h w (words w e)) sheet k s;
+      taken = λ w e sheet k s. taken-there h w (words-given h w (words w e)) sheet k s;
+      counted = λ w e. ap (λ (v : HourWords). v .substituted) (sym (words-given h w (words w e) .words)) ∙ substituted-count h channels;
+      refused = λ number e. refusal-right h number (says-refused (recordedOf h) number e);
+    }

@@ -9,7 +9,7 @@ use lib.Dec.{lit<}
 use lib.Ieee.{Float}
 use Rattle.exact.specs.Faults.{_orElse_, or-first, or-zero}
 use Rattle.exact.specs.Logic.{All}
-use Rattle.layout.specs.Layout.{inRange}
+use Rattle.layout.specs.Values.{inRange}
 use Rattle.sheet.specs.Sheet.{wordOf}
 use Rattle.recorder.specs.Recording.{usable, channels, kindOf, columnOf, readingOf, columnNumber, floatFault, faultOf, firstFault, wordFor, wordsFor, recordedOf}
 use Rattle.recorder.specs.Parts.{FloatTried, Tries}

@@ -9,7 +9,7 @@ use Rattle.exact.specs.Faults.{_orElse_, unless}
 use Rattle.exact.specs.Fraction.{Fraction, Positive, fraction}
 use Rattle.exact.specs.Rounding.{halfUp}
 use Rattle.exact.specs.Sums.{totalOf}
-use Rattle.layout.specs.Layout.{inRange, so2Ppm, noxPpm, co2Percent, flowScfh}
+use Rattle.layout.specs.Values.{inRange, so2Ppm, noxPpm, co2Percent, flowScfh}
 use Rattle.layout.specs.declared.values.Value.{Value}
 use Rattle.formulas.specs.Hour.{tenth, flowUnit}
 use Rattle.sheet.specs.Sheet.{wordOf, so2Kind, noxKind, co2Kind, flowKind}
@@ -110,6 +110,6 @@ unfoldable pub recordedOf : RecorderHour → Recorded
 recordedOf h = elim (firstFault h channels) [ zero ↦ Words (wordsFor h) | suc number ↦ Refused (suc number) ]
 
 -- what an answer says: the four words and the count, or the refusal's number
-abbrev pub numbersOf : Recorded → List ℕ
-numbersOf (Words w) = w .so2 ∷ w .nox ∷ w .co2 ∷ w .flow ∷ w .substituted ∷ []
-numbersOf (Refused number) = number ∷ []
+abbrev pub recorderNumbers : Recorded → List ℕ
+recorderNumbers (Words w) = w .so2 ∷ w .nox ∷ w .co2 ∷ w .flow ∷ w .substituted ∷ []
+recorderNumbers (Refused number) = number ∷ []

@@ -3,7 +3,7 @@ use layout::values;
 use layout::values::Value;
 ghost use mathlib.Core.Path.{_≡_};
 ghost use Prim.Native.Nat.{_*_, _≤_, _<_, _^_};
-ghost use Rattle.recorder.specs.Recording.{substitutedIn, recordedOf};
+ghost use Rattle.recorder.specs.Recording.{substitutedIn, recordedOf, recorderNumbers};
 ghost use Rattle.recorder.specs.Promise.{RecorderPromise};
 ghost use Rattle.recorder.specs.Parts.{PartsOf, floatScale, partsCount, UnitRoom, channelRow, FloatTried, Tries};
 
@@ -212,7 +212,7 @@ fn substituted(reading: RecorderReading) -> u32
 
 // The four words of an hour, or the first refusal: SO2, NOx, CO2 and flow in turn, each tried for 44, 45 and 46.
 pub fn hour_words(h: RecorderHour) -> Recorded
-    ensures { λ r. ⌜ (r ≡ recordedOf h) × RecorderPromise h r ⌝ }
+    ensures { λ r. ⌜ (r ≡ recordedOf h) × RecorderPromise h (recorderNumbers r) ⌝ }
 {
     let so2_reading = h.so2;
     let nox_reading = h.nox;

@@ -11,7 +11,8 @@ use borrow.Rule.Slice.PartMut.{putMid}
 use Rattle.columns.specs.Columns.{put}
 use Rattle.columns.specs.ColumnsLaws.{put-length, put-beside}
 use Rattle.columns.specs.Written.{written}
-use Rattle.layout.specs.Layout.{valueCount, valuesOf, valueAt, mostValues, noValue}
+use Rattle.layout.specs.Layout.{valueCount, valuesOf, valueAt, mostValues}
+use Rattle.layout.specs.Values.{noValue}
 use Rattle.layout.specs.LayoutLaws.{values-most}
 use Rattle.layout.specs.declared.RecordType.{RecordType}
 use Rattle.records.specs.Records.{valued, ended}

@@ -20,13 +20,12 @@ use Rattle.layout.specs.Layout.{
   stackWidth,
   dateColumn,
   dateWidth,
-  yearDigits,
-  quarterDigit,
   valuesOf,
-  noValue,
+  ValueInside,
 }
+use Rattle.layout.specs.Values.{yearDigits, quarterDigit, noValue}
 use Rattle.layout.specs.LayoutLaws.{length-least, date-fits}
-use Rattle.layout.specs.ValueLaws.{ValueInside, value-inside}
+use Rattle.layout.specs.ValueLaws.{value-inside}
 use Rattle.totals.specs.declared.Quarter.{Quarter}
 use Rattle.layout.specs.declared.values.Value.{Value}
 use Rattle.formulas.specs.declared.hour.Hour.{Hour}

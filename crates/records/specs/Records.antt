@@ -4,7 +4,8 @@ use mathlib.Core.List.{List, [], _∷_, _++_}
 use lib.ListN.{replicate}
 use Rattle.columns.specs.Columns.{put}
 use Rattle.columns.specs.Written.{digitsOf, written}
-use Rattle.layout.specs.Layout.{typeStart, typeDigits, stackStart, yearDigits, quarterDigit, lengthOf, dateColumn, scfhOf, valuesOf}
+use Rattle.layout.specs.Layout.{typeStart, typeDigits, stackStart, lengthOf, dateColumn, valuesOf}
+use Rattle.layout.specs.Values.{yearDigits, quarterDigit, scfhOf}
 use Rattle.layout.specs.declared.values.Value.{Value}
 use Rattle.layout.specs.declared.RecordType.{RecordType}
 use Rattle.layout.specs.declared.RecordType.the-variants.{Facility, So2Concentration, NoxConcentration, Co2Concentration, VolumetricFlow, Operation}

@@ -3,7 +3,8 @@ use Prim.Native.Nat.{ℕ, _+_, _*_, _/_, _%_, _^_}
 use mathlib.Core.List.{List}
 use lib.ListN.{length, getD}
 use Rattle.exact.specs.Logic.{ranked}
-use Rattle.layout.specs.Layout.{thousandsOf, shape}
+use Rattle.layout.specs.Layout.{shape}
+use Rattle.layout.specs.Values.{thousandsOf}
 use Rattle.layout.specs.declared.Shape.{Shape}
 use Rattle.formulas.specs.declared.hour.Readings.{Readings}
 use Rattle.sheet.specs.declared.Word.{Word}

@@ -1,12 +1,13 @@
 -- What 31 and 32 try of a sheet.
 use Prim.Native.Nat.{ℕ, zero, suc, _%_}
+use mathlib.Core.Path.{_≡_}
 use mathlib.Core.List.{List, [], _∷_}
 use mathlib.Core.Bool.{Bool, true, _&&_, not}
 use lib.ListN.{length}
 use lib.Dec.{eqb, leb, ltb}
 use Rattle.columns.specs.Bytes.{all, isBlank, isPrintable}
-use Rattle.calendar.specs.Calendar.{hoursInQuarter}
-use Rattle.layout.specs.Layout.{within, yearDigits, quarterDigit, timeHours, so2Ppm, noxPpm, co2Percent, flowScfh, fFactor}
+use Rattle.calendar.specs.Calendar.{IsQuarter, hoursInQuarter}
+use Rattle.layout.specs.Values.{Within, within, yearDigits, quarterDigit, timeHours, so2Ppm, noxPpm, co2Percent, flowScfh, fFactor}
 use Rattle.sheet.specs.Sheet.{hourWords, sheetKind, sheetHourCount, sheetHours}
 use Rattle.sheet.specs.declared.SheetHour.{SheetHour}
 
@@ -18,6 +19,13 @@ every p (h ∷ hs) = p h && every p hs
 -- 31: year, quarter and stack name
 unfoldable pub headingHolds : ℕ → ℕ → List ℕ → Bool
 headingHolds year quarter name = within yearDigits year && within quarterDigit quarter && not (all isBlank name) && all isPrintable name
+
+-- what it says
+pub record Heading (year quarter : ℕ) (name : List ℕ) : Type 0 where
+  pub yearWithin : Within yearDigits year
+  pub isQuarter : IsQuarter quarter
+  pub named : not (all isBlank name) ≡ true
+  pub printable : all isPrintable name ≡ true
 
 -- 31: the kinds of so many words of hour k, from word j on, are j, j + 1 and so on
 unfoldable pub kindsRise : List ℕ → ℕ → ℕ → ℕ → Bool

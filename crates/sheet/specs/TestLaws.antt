@@ -1,30 +1,23 @@
 -- What 31 and 32 leave: a right heading, hours of the quarter that rise, no more of them than it has, values within their ranges.
 use Prim.Native.Nat.{ℕ, zero, suc, _+_, _-_, _%_, _≤_, _<_}
-use mathlib.Core.Path.{_≡_}
+use mathlib.Core.Path.{_≡_, refl}
 use mathlib.Core.List.{List, [], _∷_}
-use mathlib.Core.Bool.{Bool, true, not}
+use mathlib.Core.Bool.{Bool, true}
 use native.Mathlib.Omega.{arith}
 use lib.ListN.{length}
 use borrow.Author.Tests.{leb-true, ltb-true, eqb-true}
-use Rattle.exact.specs.Logic.{ranked}
-use Rattle.columns.specs.Bytes.{all, isBlank, isPrintable}
-use Rattle.calendar.specs.Calendar.{mostHours, IsQuarter, hoursInQuarter}
+use Rattle.exact.specs.Logic.{ranked, both, counted-each, each-counted}
+use Rattle.calendar.specs.Calendar.{mostHours, hoursInQuarter}
 use Rattle.calendar.specs.CalendarLaws.{hours-in-quarter}
-use Rattle.layout.specs.Layout.{Within, Held, yearDigits, timeHours, flowScfh, scfhOf}
-use Rattle.exact.specs.Logic.{both}
+use Rattle.layout.specs.Layout.{Held}
+use Rattle.layout.specs.Values.{Within, timeHours, flowScfh, scfhOf}
 use Rattle.layout.specs.LayoutLaws.{within-true, scfh-back, flow-within}
 use Rattle.formulas.specs.Hour.{ReadingsWithin}
 use Rattle.stamp.specs.StampLaws.{is-quarter}
 use Rattle.sheet.specs.Sheet.{hourWords, sheetHour, recordedReadings, sheetHourCount, shapeOf, sheetHours}
-use Rattle.sheet.specs.SheetTests.{every, headingHolds, kindsHold, hourHolds, hoursRise, sheetHolds, readingsHold}
+use Rattle.sheet.specs.SheetTests.{Heading, every, headingHolds, kindsHold, hourHolds, hoursRise, sheetHolds, readingsHold}
 use Rattle.sheet.specs.SheetLaws.{sheet-hours-count}
 use Rattle.sheet.specs.declared.SheetHour.{SheetHour}
-
-pub record Heading (year quarter : ℕ) (name : List ℕ) : Type 0 where
-  pub yearWithin : Within yearDigits year
-  pub isQuarter : IsQuarter quarter
-  pub named : not (all isBlank name) ≡ true
-  pub printable : all isPrintable name ≡ true
 
 pub heading-true : (year quarter : ℕ) (name : List ℕ) → headingHolds year quarter name ≡ true → Heading year quarter name
 unfolding headingHolds
@@ -50,26 +43,20 @@ sheet-true year quarter name sheet e =
     record { heading = heading-true year quarter name (c .0); words = eqb-true _ _ (c .1); kinds = b .1; rises = a .1 }
 
 -- a test of all hours is one of each
-module _ (p : SheetHour → Bool) where
-  pub every-first : (h : SheetHour) (hs : List SheetHour) → every p (h ∷ hs) ≡ true → (p h ≡ true) × (every p hs ≡ true)
-  unfolding every
-  every-first h hs e = both (p h) _ e
+module _ (p : SheetHour → Bool) (sheet : List ℕ) where
+  abbrev holdsAt : ℕ → Bool
+  holdsAt k = p (sheetHour sheet k)
 
-  every-at : (sheet : List ℕ) (k left j : ℕ) → every p (ranked (sheetHour sheet) k left) ≡ true → j < left → p (sheetHour sheet (k + j)) ≡ true
-  unfolding ranked
-  every-at sheet k zero j e h = absurd (omega arith)
-  every-at sheet k (suc left) zero e h =
-      let z : k + 0 ≡ k = omega arith in
-      rw z (every-first (sheetHour sheet k) (ranked (sheetHour sheet) (suc k) left) e .0)
-  every-at sheet k (suc left) (suc j) e h =
-      let s : k + suc j ≡ suc k + j = omega arith in
-      rw s (every-at sheet (suc k) left j (every-first (sheetHour sheet k) (ranked (sheetHour sheet) (suc k) left) e .1) (omega arith))
+  abbrev holdFrom : (k left : ℕ) → Bool
+  holdFrom k left = every p (ranked (sheetHour sheet) k left)
 
-  pub every-hour : (sheet : List ℕ) (k : ℕ) → every p (sheetHours sheet) ≡ true → k < sheetHourCount sheet → p (sheetHour sheet k) ≡ true
-  unfolding sheetHours
-  every-hour sheet k e h =
-      let z : 0 + k ≡ k = omega arith in
-      rw z at (every-at sheet 0 (sheetHourCount sheet) k e h)
+  pub every-hour : (k : ℕ) → every p (sheetHours sheet) ≡ true → k < sheetHourCount sheet → p (sheetHour sheet k) ≡ true
+  unfolding sheetHours every ranked
+  every-hour k e h = counted-each holdsAt holdFrom (λ k. refl) (λ k left. refl) (sheetHourCount sheet) e k h
+
+  pub hour-every : ((k : ℕ) → k < sheetHourCount sheet → p (sheetHour sheet k) ≡ true) → every p (sheetHours sheet) ≡ true
+  unfolding sheetHours every ranked
+  hour-every each = each-counted holdsAt holdFrom (λ k. refl) (λ k left. refl) (sheetHourCount sheet) each
 
 -- hours that rise below a number are no more than it, and each is below it
 module _ (below : ℕ) where

@@ -16,9 +16,9 @@ use Rattle.columns.specs.Number.{digitsFrom, digitsOnly}
 use Rattle.columns.specs.declared.Field.{Field}
 use Rattle.columns.specs.declared.Field.the-variants.{Malformed, Number}
 use Rattle.layout.specs.Layout.{dateWidth}
-use Rattle.calendar.specs.Calendar.{IsQuarter, quarterHour}
+use Rattle.calendar.specs.Calendar.{IsQuarter, quarterHour, LiesIn}
 use Rattle.calendar.specs.MonthLaws.{days-in-month}
-use Rattle.calendar.specs.CalendarLaws.{LiesIn, outside}
+use Rattle.calendar.specs.CalendarLaws.{outside}
 use Rattle.calendar.specs.declared.QuarterHour.{QuarterHour}
 use Rattle.calendar.specs.declared.QuarterHour.the-variants.{Outside}
 use Rattle.stamp.specs.Stamp.{numberHour, fieldHour, stampHour}

@@ -1,21 +1,22 @@
 -- An hour's stamp names the hour.
 use Prim.Native.Nat.{ℕ, _/_, _%_, _<_, _^_}
-use mathlib.Core.Path.{_≡_, refl}
+use mathlib.Core.Path.{_≡_, refl, ap, _∙_}
 use native.Mathlib.Omega.{arith}
 use mathlib.Core.List.{List}
 use mathlib.Core.Bool.{Bool, true, false, cond}
 use lib.Dec.{eqb}
 use lib.ListN.{length}
-use borrow.Author.Tests.{eq-eqb}
+use borrow.Author.Tests.{eqb-true, eq-eqb}
 use Rattle.columns.specs.Bytes.{all, isPrintable}
 use Rattle.columns.specs.Number.{digitsOnly}
 use Rattle.columns.specs.Written.{digitsOf}
 use Rattle.columns.specs.WrittenLaws.{read-digits-written, digits-length, digits-printable}
 use Rattle.columns.specs.declared.Field.{Field}
 use Rattle.columns.specs.declared.Field.the-variants.{Blank, Malformed, Number}
-use Rattle.layout.specs.Layout.{dateWidth, quarterDigit, Within}
-use Rattle.calendar.specs.Calendar.{mostHours, IsQuarter, hoursInQuarter, quarterHour, dateOfHour}
-use Rattle.calendar.specs.CalendarLaws.{TwoDigits, date-of-hour-two-digits, hour-at, at-hour-below}
+use Rattle.layout.specs.Layout.{dateWidth}
+use Rattle.layout.specs.Values.{quarterDigit, Within}
+use Rattle.calendar.specs.Calendar.{mostHours, IsQuarter, hoursInQuarter, hourOfQuarter, quarterHour, dateOfHour, LiesIn, TwoDigits}
+use Rattle.calendar.specs.CalendarLaws.{date-of-hour-two-digits, hours-in-quarter, hour-at, at-hour, inside}
 use Rattle.calendar.specs.declared.Date.{Date}
 use Rattle.calendar.specs.declared.QuarterHour.the-variants.{At, Outside}
 use Rattle.stamp.specs.Stamp.{numberDate, numberHour, fieldHour, stampHour, dateNumber, stampNumber, stampOf}
@@ -42,6 +43,50 @@ number-date year date t =
     let h : dateNumber year date % 100 ≡ date .hour = omega arith in
     rw (m, d, h)
 
+module _ (year quarter : ℕ) where
+  number-inside : (v hour : ℕ) → numberHour year quarter v ≡ At hour → hour < hoursInQuarter year quarter
+  unfolding numberHour
+  number-inside v hour e = go (eqb (v / 1_000_000) (year % 100)) e
+    where
+      go : (t : Bool) → cond t (quarterHour year quarter (numberDate v)) Outside ≡ At hour → hour < hoursInQuarter year quarter
+      go true k = at-hour year quarter (numberDate v) hour k .below
+      go false k = absurd (let z : _≡_ {A = ℕ} 0 1 = cc in omega arith)
+
+  -- the hour that columns name is one that the quarter has
+  pub stamp-inside : (bs : List ℕ) (hour : ℕ) → stampHour year quarter bs ≡ At hour → hour < hoursInQuarter year quarter
+  unfolding stampHour fieldHour
+  stamp-inside bs hour e = go (digitsOnly bs) e
+    where
+      go : (f : Field) → fieldHour year quarter f ≡ At hour → hour < hoursInQuarter year quarter
+      go Blank k = absurd (let z : _≡_ {A = ℕ} 0 1 = cc in omega arith)
+      go Malformed k = absurd (let z : _≡_ {A = ℕ} 0 1 = cc in omega arith)
+      go (Number v) k = number-inside v hour k
+
+  -- eight columns that name an hour of the quarter are digits, YY those of the year, MMDD and HH a real date and hour of the quarter, that one
+  abbrev Says : List ℕ → ℕ → Type 0
+  Says bs hour =
+      (v : ℕ) × (digitsOnly bs ≡ Number v) × (v / 1_000_000 ≡ year % 100) × LiesIn year quarter (numberDate v)
+      × (hourOfQuarter year quarter (numberDate v) ≡ hour)
+
+  pub stamp-says : (bs : List ℕ) (hour : ℕ) → stampHour year quarter bs ≡ At hour → Says bs hour
+  unfolding stampHour fieldHour numberHour
+  stamp-says bs hour e = go (digitsOnly bs) refl e
+    where
+      own : (v : ℕ) → digitsOnly bs ≡ Number v → (t : Bool) → eqb (v / 1_000_000) (year % 100) ≡ t →
+          cond t (quarterHour year quarter (numberDate v)) Outside ≡ At hour → Says bs hour
+      own v e true y k = let a = at-hour year quarter (numberDate v) hour k in (v, e, eqb-true _ _ y, a .lies, a .own)
+      own v e false y k = absurd (let z : _≡_ {A = ℕ} 0 1 = cc in omega arith)
+
+      go : (f : Field) → digitsOnly bs ≡ f → fieldHour year quarter f ≡ At hour → Says bs hour
+      go Blank e k = absurd (let z : _≡_ {A = ℕ} 0 1 = cc in omega arith)
+      go Malformed e k = absurd (let z : _≡_ {A = ℕ} 0 1 = cc in omega arith)
+      go (Number v) e k = own v e (eqb (v / 1_000_000) (year % 100)) refl k
+
+  pub says-stamp : (bs : List ℕ) (hour : ℕ) → Says bs hour → stampHour year quarter bs ≡ At hour
+  unfolding stampHour fieldHour numberHour
+  says-stamp bs hour s =
+      rw (s .1, fieldHour, numberHour, eq-eqb _ _ (s .2)) (inside year quarter (numberDate (s .0)) (s .3) ∙ ap At (s .4))
+
 module _ (year quarter : ℕ) (q : IsQuarter quarter) where
   pub stamp-names : (hour : ℕ) → hour < hoursInQuarter year quarter → stampHour year quarter (stampOf year quarter hour) ≡ At hour
   unfolding stampHour stampOf stampNumber fieldHour numberHour
@@ -52,23 +97,9 @@ module _ (year quarter : ℕ) (q : IsQuarter quarter) where
       rw (read-digits-written dateWidth (dateNumber year date) (date-number-below year date t), eq-eqb _ _ y, number-date year date t)
       (hour-at year quarter hour h)
 
-  number-hour-below : (v hour : ℕ) → numberHour year quarter v ≡ At hour → hour < mostHours
-  unfolding numberHour
-  number-hour-below v hour e = go (eqb (v / 1_000_000) (year % 100)) e
-    where
-      go : (t : Bool) → cond t (quarterHour year quarter (numberDate v)) Outside ≡ At hour → hour < mostHours
-      go true k = at-hour-below year quarter (numberDate v) q hour k
-      go false k = absurd (let z : _≡_ {A = ℕ} 0 1 = cc in omega arith)
-
   -- the hour that columns name is one of the quarter's
   pub stamp-below : (bs : List ℕ) (hour : ℕ) → stampHour year quarter bs ≡ At hour → hour < mostHours
-  unfolding stampHour fieldHour
-  stamp-below bs hour e = go (digitsOnly bs) e
-    where
-      go : (f : Field) → fieldHour year quarter f ≡ At hour → hour < mostHours
-      go Blank k = absurd (let z : _≡_ {A = ℕ} 0 1 = cc in omega arith)
-      go Malformed k = absurd (let z : _≡_ {A = ℕ} 0 1 = cc in omega arith)
-      go (Number v) k = number-hour-below v hour k
+  stamp-below bs hour e = omega (arith, stamp-inside year quarter bs hour e, hours-in-quarter year quarter q)
 
 pub stamp-printable : (year quarter hour : ℕ) → all isPrintable (stampOf year quarter hour) ≡ true
 unfolding stampOf

@@ -8,7 +8,7 @@ use Rattle.calendar.specs.Calendar.{mostHours}
 use Rattle.exact.specs.Fraction.{over}
 use Rattle.exact.specs.Rounding.{nearest}
 use Rattle.exact.specs.Sums.{totalOf}
-use Rattle.layout.specs.Layout.{so2Tons, co2Tons, heatTotal, noxMean, noxTons, so2Rate, co2Rate, heatRate, noxRate, timeHours, Within}
+use Rattle.layout.specs.Values.{so2Tons, co2Tons, heatTotal, noxMean, noxTons, so2Rate, co2Rate, heatRate, noxRate, timeHours, Within}
 use Rattle.formulas.specs.Hour.{HourWithin, HoursWithin}
 use Rattle.formulas.specs.declared.hour.Hour.{Hour}
 use Rattle.totals.specs.Totals.{massShare, totalsOf, meanOf, quarterOf, quarterTotals}
@@ -69,9 +69,9 @@ module _ (hs : List Hour) (w : HoursWithin hs) (b : length hs ≤ mostHours) whe
   totals-fit =
       let m = totals-most in
       record {
-        so2 = record { least = omega arith; most = omega (arith, m .so2); whole = omega arith };
-        co2 = record { least = omega arith; most = omega (arith, m .co2); whole = omega arith };
-        heat = record { least = omega arith; most = omega (arith, m .heat); whole = omega arith };
-        nox = record { least = omega arith; most = nox-most; whole = omega arith };
-        nox-tons = record { least = omega arith; most = omega (arith, m .nox-tons); whole = omega arith };
+        so2 = record { least = omega arith; most = omega (arith, m .so2); steps = omega arith };
+        co2 = record { least = omega arith; most = omega (arith, m .co2); steps = omega arith };
+        heat = record { least = omega arith; most = omega (arith, m .heat); steps = omega arith };
+        nox = record { least = omega arith; most = nox-most; steps = omega arith };
+        nox-tons = record { least = omega arith; most = omega (arith, m .nox-tons); steps = omega arith };
       }

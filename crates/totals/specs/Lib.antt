@@ -3,3 +3,4 @@ pub mod TotalLaws
 pub mod FitLaws
 pub mod Mass
 pub mod MassLaws
+pub mod TieExamples

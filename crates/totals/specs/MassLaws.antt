@@ -1,17 +1,13 @@
 -- The fifth sum says what F-24 gives, and the total formed of it lies within 1/20 ton.
-use Prim.Native.Nat.{ℕ, _*_}
-use mathlib.Core.Path.{_≡_, refl}
-use mathlib.Core.Bool.{false}
-use mathlib.Core.List.{List, [], _∷_, map}
+use Prim.Native.Nat.{_*_}
+use mathlib.Core.List.{List}
 use native.Mathlib.Nat.{mul-one}
 use native.Mathlib.Omega.{arith}
 use lib.Dec.{lit<}
-use lib.ListN.{replicate}
 use Rattle.exact.specs.Fraction.{_≤ᶠ_, _⊕_, _÷_, over, fraction, whole, sumOf, Near}
 use Rattle.exact.specs.FractionLaws.{near-trans, near-weaken}
 use Rattle.exact.specs.Rounding.{recorded, half, halfUp}
 use Rattle.exact.specs.RoundingLaws.{records-rounded, record-near}
-use Rattle.exact.specs.Sums.{totalOf}
 use Rattle.exact.specs.SumLaws.{near-over, sum-near}
 use Rattle.formulas.specs.Hour.{tenth}
 use Rattle.formulas.specs.declared.hour.Hour.{Hour}
@@ -39,26 +35,3 @@ unfolding quarterTotals quarterOf totalsOf
 mass-near hs =
     let tons = millionths (sumOver hs massShare) ÷ whole poundsPerTon in
     near-weaken (near-trans (near-over poundsPerTon (mass-sum hs)) (record-near tenth tons (halfUp tenth tons) (records-rounded tenth tons))) rounded-once
-
--- half a tenth of a ton is rounded up, and what lies below it down
-
-abbrev tonsOf : (sum : ℕ) → ℕ
-tonsOf sum = quarterOf (record { sums = 0 ∷ 0 ∷ 0 ∷ 0 ∷ sum ∷ []; hours = 1 }) .«nox_tons»
-
-pub half-tenths : map tonsOf (99_999_999 ∷ 100_000_000 ∷ 299_999_999 ∷ 300_000_000 ∷ []) ≡ 0 ∷ 1 ∷ 1 ∷ 2 ∷ []
-unfolding quarterOf over
-half-tenths = refl
-
--- seven hours of 14.27 lb are 99.89 lb, and of 14.29 lb 100.03: rounded hour by hour, to 0.1 or to 1 lb, they would be 100.1 and 98
-
-abbrev sevenHours : (rate : ℕ) → List Hour
-sevenHours rate = replicate 7 (record {
-  time = 100;
-  gas = false;
-  readings = record { so2 = 0; nox = 0; co2 = 0; flow = 0; fc = 0 };
-  figures = record { heat = 100; so2 = 0; nox = rate; co2 = 0 };
-})
-
-pub pounds-unrounded : map (λ rate. quarterTotals (sevenHours rate) .«nox_tons») (1427 ∷ 1429 ∷ []) ≡ 0 ∷ 1 ∷ []
-unfolding quarterTotals quarterOf totalsOf totalOf over
-pounds-unrounded = refl

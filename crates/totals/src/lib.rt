@@ -3,7 +3,7 @@ use formulas::hour::Figures;
 ghost use mathlib.Core.Path.{_≡_};
 ghost use Prim.Native.Nat.{_*_, _<_, _≤_};
 ghost use Rattle.calendar.specs.Calendar.{mostHours};
-ghost use Rattle.layout.specs.Layout.{noxRate, heatRate, timeHours};
+ghost use Rattle.layout.specs.Values.{noxRate, heatRate, timeHours};
 ghost use Rattle.formulas.specs.Hour.{FiguresWithin};
 ghost use Rattle.totals.specs.Totals.{mostShare, mostSum, shareOf, ShareRoom, noTotals, withHour, Room, meanOf, quarterOf};
 

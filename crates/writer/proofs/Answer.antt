@@ -10,7 +10,7 @@ use Rattle.sheet.specs.Sheet.{shapeOf, sheetHours}
 use Rattle.writer.specs.Recorded.{reportHours}
 use Rattle.writer.specs.Refusals.{refusalOf}
 use Rattle.writer.specs.Written.{report, answered, buffered}
-use Rattle.writer.specs.ReportLaws.{report-shape, written-length}
+use Rattle.writer.specs.ReportLaws.{report-shape, report-bytes}
 use Rattle.writer.specs.declared.Written.the-variants.{Length, Refused}
 
 module _ (year quarter : ℕ) (name sheet buffer : List ℕ) where
@@ -26,5 +26,5 @@ module _ (year quarter : ℕ) (name sheet buffer : List ℕ) where
   unfolding answered buffered put
   accepted e named =
       let n : 1 - 1 + length (report year quarter name (reportHours (sheetHours sheet))) ≡ reportLength (shapeOf sheet) =
-      omega (arith, written-length year quarter name (reportHours (sheetHours sheet)) named (shapeOf sheet) (report-shape sheet)) in
+      omega (arith, report-bytes year quarter name (reportHours (sheetHours sheet)) named (shapeOf sheet) (report-shape sheet)) in
       (rw (← e, answered), rw (← e, buffered, n))

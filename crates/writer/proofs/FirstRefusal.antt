@@ -7,6 +7,7 @@ use native.Mathlib.Omega.{arith}
 use lib.Dec.{leb}
 use lib.ListN.{length}
 use borrow.Author.Tests.{eq-eqb, ne-eqb, le-leb, lt-leb}
+use Rattle.exact.specs.Faults.{_orElse_, unless}
 use Rattle.calendar.specs.Calendar.{hoursInQuarter}
 use Rattle.layout.specs.Layout.{reportLength}
 use Rattle.sheet.specs.Sheet.{hourWords, sheetHourCount, shapeOf, sheetHours}
@@ -17,11 +18,6 @@ use Rattle.writer.specs.OnePass.{valuesRefusal, hoursRefusal, firstTried
 -- what the pass finds over all hours
 abbrev pub passed : ℕ → ℕ → List ℕ → ℕ
 passed year quarter sheet = refusalFrom (hoursInQuarter year quarter) sheet 0 (sheetHourCount sheet) 0 0
-
--- 34 is tried last
-withRoom : ℕ → Bool → ℕ
-withRoom zero fits = elim fits [ false ↦ 34 | true ↦ 0 ]
-withRoom (suc found) fits = suc found
 
 module _ (year quarter : ℕ) (name sheet : List ℕ) (room : ℕ) where
   unshaped : sheetHolds year quarter name sheet ≡ false → 31 ≡ refusalOf year quarter name sheet room
@@ -41,8 +37,9 @@ module _ (year quarter : ℕ) (name sheet : List ℕ) (room : ℕ) where
     unfolding sheetHolds
     shaped = rw (e, eq-eqb _ _ w)
 
-    told : refusalOf year quarter name sheet room ≡ withRoom (passed year quarter sheet) (leb (reportLength (shapeOf sheet)) room)
-    unfolding refusalOf refusalFrom inOrder hoursRefusal sheetHours firstTried withRoom
+    -- 34 is tried last
+    told : refusalOf year quarter name sheet room ≡ (passed year quarter sheet orElse unless (leb (reportLength (shapeOf sheet)) room) 34)
+    unfolding refusalOf refusalFrom inOrder hoursRefusal sheetHours firstTried
     told =
         rw (shaped, refusalOf)
         (go (kindsHold sheet 0 (sheetHourCount sheet)) (hoursRise (hoursInQuarter year quarter) 0 (sheetHours sheet)) (every readingsHold (sheetHours sheet))
@@ -53,8 +50,8 @@ module _ (year quarter : ℕ) (name sheet : List ℕ) (room : ℕ) where
 
         go : (a b c d : Bool) →
             _≡_ {A = ℕ}
-            (elim (a && b) [ false ↦ 31 | true ↦ elim c [ false ↦ 32 | true ↦ elim d [ false ↦ 33 | true ↦ elim fits [ false ↦ 34 | true ↦ 0 ] ] ] ])
-            (withRoom (inOrder a b (valuesRefusal c d)) fits)
+            (unless (a && b) 31 orElse unless c 32 orElse unless d 33 orElse unless fits 34)
+            (inOrder a b (valuesRefusal c d) orElse unless fits 34)
         go false b c d = refl
         go true false c d = refl
         go true true false d = refl
@@ -62,17 +59,14 @@ module _ (year quarter : ℕ) (name sheet : List ℕ) (room : ℕ) where
         go true true true true = refl
 
     pub found-first : (found : ℕ) → found ≡ passed year quarter sheet → (found ≡ 0 → ⊥) → found ≡ refusalOf year quarter name sheet room
-    unfolding withRoom
     found-first zero f h = absurd (h refl)
     found-first (suc found) f h = sym (told ∙ rw (← f))
 
     module _ {bytes : ℕ} (f : passed year quarter sheet ≡ 0) (b : bytes ≡ reportLength (shapeOf sheet)) where
       pub room-short : room < bytes → 34 ≡ refusalOf year quarter name sheet room
-      unfolding withRoom
       room-short h = sym (told ∙ rw (f, lt-leb _ _ (rw b at h)))
 
       pub room-enough : bytes ≤ room → 0 ≡ refusalOf year quarter name sheet room
-      unfolding withRoom
       room-enough h = sym (told ∙ rw (f, le-leb _ _ (rw b at h)))
 
     pub none-found : passed year quarter sheet ≡ 0 → sheetHolds year quarter name sheet ≡ true

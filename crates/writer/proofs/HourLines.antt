@@ -13,15 +13,13 @@ use lib.Seq.{drop-append-le, drop-cons, drop-drop, ext-getD}
 use Rattle.exact.specs.Logic.{mapped-at}
 use Rattle.columns.specs.Columns.{put}
 use Rattle.columns.specs.ColumnsLaws.{put-length, put-behind}
-use Rattle.layout.specs.Layout.{stackWidth, shape, recordOf, order, lengthOf, dateColumn, rankOf, keepHourly, hourly}
-use Rattle.layout.specs.Layout.{countOf, bytesOf, frontOf, offsetOf, reportLength}
+use Rattle.layout.specs.Layout.{stackWidth, shape, recordOf, order, lengthOf, dateColumn, rankOf, hourly, countOf, bytesOf, frontOf, offsetOf, reportLength}
 use Rattle.layout.specs.LayoutLaws.{in-order}
 use Rattle.layout.specs.PlaceLaws.{line-inside}
-use Rattle.layout.specs.RunLaws.{once-type, in-run, hourly-dated, listed-dated, once-or-dated, dated-count, keep-dated}
+use Rattle.layout.specs.RunLaws.{once-type, in-run, once-or-dated, dated-run, by-run, dated-count}
+use Rattle.layout.specs.declared.Run.the-variants.{Once}
 use Rattle.stamp.specs.Stamp.{stampOf}
 use Rattle.totals.specs.Totals.{quarterTotals}
-use Rattle.layout.specs.declared.Run.{Run}
-use Rattle.layout.specs.declared.Run.the-variants.{Once, Hourly, Listed}
 use Rattle.layout.specs.declared.RecordType.{RecordType}
 use Rattle.layout.specs.declared.RecordType.the-variants.{Facility, QuarterTotals}
 use Rattle.layout.specs.declared.Shape.{Shape}
@@ -31,7 +29,7 @@ use Rattle.writer.specs.Written.{hourRecord, writtenRecords, report}
 use Rattle.writer.specs.HourLines.{hourLines, hoursLines}
 use Rattle.records.specs.RecordLaws.{facility-length, totals-length}
 use Rattle.writer.specs.LineLaws.{hour-length}
-use Rattle.writer.specs.ReportLaws.{ended-length, hour-records, behindRecord, record-place, written-length}
+use Rattle.writer.specs.ReportLaws.{ended-length, hour-records, behindRecord, record-place, report-bytes}
 use Rattle.writer.proofs.Puts.{Own, Right, unknown, put-fills, put-keeps}
 
 drop-next : {A : Type 0} (xs : List A) (k : ℕ) (a : A) (rest : List A) → drop k xs ≡ a ∷ rest → drop (k + 1) xs ≡ rest
@@ -52,7 +50,7 @@ module _ (year quarter : ℕ) (name : List ℕ) (named : length name ≡ stackWi
   whole = put 1 text before
 
   text-long : length text ≡ reportLength s
-  text-long = written-length year quarter name hours named s own
+  text-long = report-bytes year quarter name hours named s own
 
   whole-long : length whole ≡ length before
   whole-long = put-length 1 text before (omega (arith, text-long))
@@ -99,13 +97,9 @@ module _ (year quarter : ℕ) (name : List ℕ) (named : length name ≡ stackWi
       lines-keep : (ts : List RecordType) (buffer : List ℕ) → Right whole i P buffer → Right whole i P (withLines (hourly ts) buffer)
       unfolding hourLines hourRecord
       lines-keep [] buffer r = r
-      lines-keep (t ∷ ts) buffer r = go (recordOf t .run) refl (lines-keep ts)
-        where
-          go : (run : Run) → recordOf t .run ≡ run → ((b : List ℕ) → Right whole i P b → Right whole i P (withLines (hourly ts) b))
-              → Right whole i P (withLines (keepHourly run t (hourly ts)) buffer)
-          go Once e more = more buffer r
-          go Hourly e more = more _ (put-keeps (own-hour t (hourly-dated t e)) r)
-          go Listed e more = more _ (put-keeps (own-hour t (listed-dated t e)) r)
+      lines-keep (t ∷ ts) buffer r =
+          by-run (λ (us : List RecordType). Right whole i P (withLines us buffer)) t (hourly ts) (t ∷ hourly ts)
+          (λ e. lines-keep ts buffer r) (λ d. lines-keep ts _ (put-keeps (own-hour t d) r))
 
       lines-fill : (t : RecordType) → 1 ≤ dateColumn t → offsetOf s t k ≤ i → i < offsetOf s t k + (lengthOf t + 1)
           → (ts : List RecordType) (j : ℕ) (buffer : List ℕ) → j < length ts → getD ts j Facility ≡ t → length buffer ≡ length whole
@@ -114,14 +108,11 @@ module _ (year quarter : ℕ) (name : List ℕ) (named : length name ≡ stackWi
       lines-fill t e l m [] j buffer h q long = absurd (omega arith)
       lines-fill t e l m (u ∷ ts) zero buffer h q long =
           let n = line-length t in
-          rw (q, keep-dated t e (hourly ts)) (lines-keep ts _ (put-fills (own-hour t e) i buffer long l (omega arith)))
-      lines-fill t e l m (u ∷ ts) (suc j) buffer h q long = go (recordOf u .run) refl (λ b. lines-fill t e l m ts j b (omega arith) q)
-        where
-          go : (run : Run) → recordOf u .run ≡ run → ((b : List ℕ) → length b ≡ length whole → Right whole i P (withLines (hourly ts) b))
-              → Right whole i P (withLines (keepHourly run u (hourly ts)) buffer)
-          go Once f more = more buffer long
-          go Hourly f more = more _ (put-keeps (own-hour u (hourly-dated u f)) (unknown i long) .long)
-          go Listed f more = more _ (put-keeps (own-hour u (listed-dated u f)) (unknown i long) .long)
+          rw (q, dated-run t e (hourly ts) (t ∷ hourly ts)) (lines-keep ts _ (put-fills (own-hour t e) i buffer long l (omega arith)))
+      lines-fill t e l m (u ∷ ts) (suc j) buffer h q long =
+          by-run (λ (us : List RecordType). Right whole i P (withLines us buffer)) u (hourly ts) (u ∷ hourly ts)
+          (λ o. lines-fill t e l m ts j buffer (omega arith) q long)
+          (λ d. lines-fill t e l m ts j _ (omega arith) q (put-keeps (own-hour u d) (unknown i long) .long))
 
       hour-fills : (t : RecordType) → 1 ≤ dateColumn t → offsetOf s t k ≤ i → i < offsetOf s t k + (lengthOf t + 1)
           → (buffer : List ℕ) → length buffer ≡ length whole → Right whole i P (withLines (hourly order) buffer)

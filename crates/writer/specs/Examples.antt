@@ -10,7 +10,8 @@ use Rattle.columns.specs.Written.{digitsOf, digitOrBlank, leading, wholeWritten
 use Rattle.calendar.specs.Calendar.{leapYear, daysInMonth, daysInQuarter, hoursInQuarter, daysBefore, monthOfDay, dateOfHour}
 use Rattle.exact.specs.Fraction.{over}
 use Rattle.exact.specs.Sums.{totalOf}
-use Rattle.layout.specs.Layout.{within, reportLength}
+use Rattle.layout.specs.Layout.{reportLength}
+use Rattle.layout.specs.Values.{within}
 use Rattle.stamp.specs.Stamp.{stampNumber, stampOf}
 use Rattle.formulas.specs.Formulas.{roundedValue, roundedFigures}
 use Rattle.totals.specs.Totals.{totalsOf, meanOf, quarterOf, quarterTotals}

@@ -7,6 +7,9 @@ pub mod Written
 pub mod HourLines
 pub mod LineLaws
 pub mod ReportLaws
+pub mod WriterClauses
+pub mod WriterClauseLaws
 pub mod Table
 pub mod TableLaws
 pub mod Examples
+pub mod SheetExamples

@@ -1,9 +1,11 @@
 -- The refusals of the writer, 31 to 34, each tried over the whole sheet before the next.
 use Prim.Native.Nat.{ℕ}
 use mathlib.Core.List.{List}
-use mathlib.Core.Bool.{Bool, true, false, _&&_}
+use mathlib.Core.Bool.{Bool, _&&_}
 use lib.Dec.{leb}
-use Rattle.layout.specs.Layout.{within, heatRate, so2Rate, noxRate, co2Rate, reportLength}
+use Rattle.exact.specs.Faults.{_orElse_, unless}
+use Rattle.layout.specs.Layout.{reportLength}
+use Rattle.layout.specs.Values.{within, heatRate, so2Rate, noxRate, co2Rate}
 use Rattle.formulas.specs.Formulas.{roundedFigures}
 use Rattle.formulas.specs.declared.hour.Figures.{Figures}
 use Rattle.sheet.specs.Sheet.{recordedReadings, shapeOf, sheetHours}
@@ -21,16 +23,7 @@ figuresFit h = figuresHold (roundedFigures (recordedReadings h))
 -- the first refusal of a sheet and a buffer of so many bytes; 0 is none
 unfoldable pub refusalOf : ℕ → ℕ → List ℕ → List ℕ → ℕ → ℕ
 refusalOf year quarter name sheet room =
-    elim (sheetHolds year quarter name sheet) [
-      | false ↦ 31
-      | true ↦
-          elim (every readingsHold (sheetHours sheet)) [
-            | false ↦ 32
-            | true ↦
-                elim (every figuresFit (sheetHours sheet)) [
-                  | false ↦ 33
-                  | true ↦
-                      elim (leb (reportLength (shapeOf sheet)) room) [ false ↦ 34 | true ↦ 0 ]
-                ]
-          ]
-    ]
+    unless (sheetHolds year quarter name sheet) 31
+    orElse unless (every readingsHold (sheetHours sheet)) 32
+    orElse unless (every figuresFit (sheetHours sheet)) 33
+    orElse unless (leb (reportLength (shapeOf sheet)) room) 34

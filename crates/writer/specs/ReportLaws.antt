@@ -1,6 +1,6 @@
 -- What is proved of a report's records: their number, their lengths, and where each stands.
 use Prim.Native.Nat.{ℕ, zero, suc, _+_, _*_, _≤_, _<_}
-use mathlib.Core.Path.{_≡_, refl, sym, ap, _∙_}
+use mathlib.Core.Path.{_≡_, sym, ap, _∙_}
 use mathlib.Core.Bool.{true}
 use mathlib.Core.List.{List, [], _∷_, _++_, map, append-assoc}
 use mathlib.Core.Logic.{_⊎_, inl, inr}
@@ -11,12 +11,11 @@ use lib.ListN.{length, drop, getD, length-append, length-map}
 use lib.Seq.{drop-append-le, drop-append-add, drop-drop, drop-cons}
 use Rattle.exact.specs.Logic.{All}
 use Rattle.columns.specs.Bytes.{all, isPrintable}
-use Rattle.layout.specs.Layout.{recordOf, order, later, lengthOf, dateColumn, stackWidth, shape, countOf, linesOf, bytesOf, frontOf, offsetOf, reportLength}
-use Rattle.layout.specs.PlaceLaws.{joinedRuns, run-place}
-use Rattle.layout.specs.RunLaws.{once-type, once-undated, hourly-dated, listed-dated, runs-length}
+use Rattle.layout.specs.Layout.{order, later, lengthOf, dateColumn, stackWidth, shape, countOf, linesOf, bytesOf, frontOf, offsetOf, reportLength, joinedRuns}
+use Rattle.layout.specs.PlaceLaws.{run-place}
+use Rattle.layout.specs.RunLaws.{once-type, dated-run, by-run, dated-count, runs-length}
 use Rattle.totals.specs.Totals.{quarterTotals}
 use Rattle.layout.specs.declared.Run.{Run}
-use Rattle.layout.specs.declared.Run.the-variants.{Once, Hourly, Listed}
 use Rattle.layout.specs.declared.RecordType.{RecordType}
 use Rattle.layout.specs.declared.RecordType.the-variants.{Facility, QuarterTotals}
 use Rattle.layout.specs.declared.Shape.{Shape}
@@ -24,7 +23,7 @@ use Rattle.sheet.specs.Sheet.{sheetHourCount, shapeOf, sheetHours}
 use Rattle.sheet.specs.SheetLaws.{sheet-hours-count}
 use Rattle.writer.specs.Recorded.{ReportHour, recordedHours, reportHour, reportHours}
 use Rattle.records.specs.Records.{ended, facilityRecord, totalsRecord}
-use Rattle.writer.specs.Written.{hourRecord, onceRecord, runRecords, writtenRecords, lined, report}
+use Rattle.writer.specs.Written.{hourRecord, onceRecord, writtenRecords, lined, report}
 use Rattle.records.specs.RecordLaws.{facility-length, totals-length, facility-printable, totals-printable}
 use Rattle.writer.specs.LineLaws.{hour-length, hour-printable}
 
@@ -64,7 +63,9 @@ module _ (year quarter : ℕ) (name : List ℕ) (hours : List ReportHour) where
       → ((t : RecordType) → 1 ≤ dateColumn t → (h : ReportHour) → P t (hourRecord year quarter name t h))
       → (t : RecordType) → All (P t) (writtenRecords year quarter name hours t)
   unfolding writtenRecords
-  records-each P first totals each t = go (recordOf t .run) refl
+  records-each P first totals each t =
+      by-run (All (P t)) t (onceRecord year quarter name hours t ∷ []) (map (hourRecord year quarter name t) hours)
+      (λ e. (one (once-type t e), tt)) (λ d. ofHours d hours)
     where
       one : (t ≡ Facility) ⊎ (t ≡ QuarterTotals) → P t (onceRecord year quarter name hours t)
       one (inl e) = rw e first
@@ -74,12 +75,6 @@ module _ (year quarter : ℕ) (name : List ℕ) (hours : List ReportHour) where
       ofHours e [] = tt
       ofHours e (h ∷ hs) = (each t e h, ofHours e hs)
 
-      go : (run : Run) → recordOf t .run ≡ run
-          → All (P t) (runRecords run (onceRecord year quarter name hours t) (map (hourRecord year quarter name t) hours))
-      go Once e = (one (once-type t e), tt)
-      go Hourly e = ofHours (hourly-dated t e) hours
-      go Listed e = ofHours (listed-dated t e) hours
-
   pub records-printable : all isPrintable name ≡ true → (t : RecordType) → All (λ r. all isPrintable r ≡ true) (writtenRecords year quarter name hours t)
   records-printable p t =
       records-each (λ t r. all isPrintable r ≡ true) (facility-printable name p year quarter) (totals-printable name p _)
@@ -87,13 +82,7 @@ module _ (year quarter : ℕ) (name : List ℕ) (hours : List ReportHour) where
 
   pub hour-records : (t : RecordType) → 1 ≤ dateColumn t → writtenRecords year quarter name hours t ≡ map (hourRecord year quarter name t) hours
   unfolding writtenRecords
-  hour-records t d = go (recordOf t .run) refl
-    where
-      go : (run : Run) → recordOf t .run ≡ run →
-          runRecords run (onceRecord year quarter name hours t) (map (hourRecord year quarter name t) hours) ≡ map (hourRecord year quarter name t) hours
-      go Once e = absurd (omega (arith, once-undated t e))
-      go Hourly e = refl
-      go Listed e = refl
+  hour-records t d = dated-run t d (onceRecord year quarter name hours t ∷ []) (map (hourRecord year quarter name t) hours)
 
   module _ (named : length name ≡ stackWidth) where
     pub records-length : (t : RecordType) → All (λ r. length r ≡ lengthOf t) (writtenRecords year quarter name hours t)
@@ -105,21 +94,19 @@ module _ (year quarter : ℕ) (name : List ℕ) (hours : List ReportHour) where
     module _ (s : Shape) (own : s ≡ shape (length hours)) where
       pub records-count : (t : RecordType) → length (writtenRecords year quarter name hours t) ≡ countOf s t
       unfolding writtenRecords
-      records-count t = go (recordOf t .run)
-        where
-          go : (run : Run) → length (runRecords run (onceRecord year quarter name hours t) (map (hourRecord year quarter name t) hours)) ≡ linesOf run s
-          go Once = refl
-          go Hourly = length-map hours (hourRecord year quarter name t) ∙ ap (λ (s : Shape). s .hours) (sym own)
-          go Listed = length-map hours (hourRecord year quarter name t) ∙ ap (λ (s : Shape). s .operations) (sym own)
+      records-count t =
+          by-run (λ (rs : List (List ℕ)). length rs ≡ countOf s t) t (onceRecord year quarter name hours t ∷ []) (map (hourRecord year quarter name t) hours)
+          (λ e. ap (λ (run : Run). linesOf run s) (sym e))
+          (λ d. length-map hours (hourRecord year quarter name t) ∙ sym (ap (λ (s : Shape). countOf s t) own ∙ dated-count t d (length hours)))
 
       pub run-length : (t : RecordType) → length (lined (writtenRecords year quarter name hours t)) ≡ bytesOf s t
       run-length t =
           lined-length (lengthOf t) (writtenRecords year quarter name hours t) (records-length t)
           ∙ ap (λ (n : ℕ). (lengthOf t + 1) * n) (records-count t)
 
-      pub written-length : length (report year quarter name hours) ≡ reportLength s
+      pub report-bytes : length (report year quarter name hours) ≡ reportLength s
       unfolding report reportLength
-      written-length = runs-length (λ t. lined (writtenRecords year quarter name hours t)) s run-length order
+      report-bytes = runs-length (λ t. lined (writtenRecords year quarter name hours t)) s run-length order
 
       -- from the k-th record of a type on
       pub records-place : (t : RecordType) (k : ℕ) → k ≤ countOf s t

@@ -1,24 +1,14 @@
--- The table of what the writer answers: a row for a report, and one for each refusal under its cause, where those tried before it have
--- none. TableLaws.antt proves that every answer is of one of them.
-use Prim.Native.Nat.{ℕ, _≤_, _<_}
+-- The table of what the writer answers to a sheet and a buffer of so many bytes: the length of a report, where every clause holds, or the
+-- number of the first that does not. TableLaws.antt proves that every answer is of one of the two rows, and that no other number is.
+use Prim.Native.Nat.{ℕ, _+_, _*_}
 use mathlib.Core.Path.{_≡_}
 use mathlib.Core.List.{List}
-use mathlib.Core.Bool.{true, false}
-use Rattle.layout.specs.Layout.{reportLength}
-use Rattle.sheet.specs.Sheet.{shapeOf, sheetHours}
-use Rattle.sheet.specs.SheetTests.{every, sheetHolds, readingsHold}
-use Rattle.writer.specs.Refusals.{figuresFit}
-use Rattle.writer.specs.declared.Written.{Written}
-use Rattle.writer.specs.declared.Written.the-variants.{Length, Refused}
+use lib.ListN.{length}
+use Rattle.exact.specs.Clauses.{Hold, FirstFails}
+use Rattle.writer.specs.WriterClauses.{writerClauses}
 
--- to a sheet and a buffer of so many bytes
-pub data InWriterTable (year quarter : ℕ) (name sheet : List ℕ) (room : ℕ) : Written → Type 0 where
-  reportWritten : sheetHolds year quarter name sheet ≡ true → every readingsHold (sheetHours sheet) ≡ true → every figuresFit (sheetHours sheet) ≡ true →
-      reportLength (shapeOf sheet) ≤ room → InWriterTable year quarter name sheet room (Length (reportLength (shapeOf sheet)))
-  misshapen : sheetHolds year quarter name sheet ≡ false → InWriterTable year quarter name sheet room (Refused 31)
-  readingOutside : sheetHolds year quarter name sheet ≡ true → every readingsHold (sheetHours sheet) ≡ false →
-      InWriterTable year quarter name sheet room (Refused 32)
-  tooLarge : sheetHolds year quarter name sheet ≡ true → every readingsHold (sheetHours sheet) ≡ true → every figuresFit (sheetHours sheet) ≡ false →
-      InWriterTable year quarter name sheet room (Refused 33)
-  noRoom : sheetHolds year quarter name sheet ≡ true → every readingsHold (sheetHours sheet) ≡ true → every figuresFit (sheetHours sheet) ≡ true →
-      room < reportLength (shapeOf sheet) → InWriterTable year quarter name sheet room (Refused 34)
+pub data InWriterTable (year quarter : ℕ) (name sheet : List ℕ) (room : ℕ) : ℕ → Type 0 where
+  -- of n operating hours
+  reportWritten : (n : ℕ) → length sheet ≡ 6 * n → Hold (writerClauses year quarter name sheet room) →
+      InWriterTable year quarter name sheet room (75 + 318 * n)
+  refused : (number : ℕ) → FirstFails (writerClauses year quarter name sheet room) number → InWriterTable year quarter name sheet room number

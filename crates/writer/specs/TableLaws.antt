@@ -1,12 +1,15 @@
--- Every answer of the writer is of a row of its table. Table.antt has the rows. What is not refused can be written, and an answer's number
--- tells a length from a refusal.
-use Prim.Native.Nat.{ℕ, zero, suc, _≤_}
+-- Every answer of the writer is of a row of its table, and the table has one number. Table.antt has the rows. What is not refused can be
+-- written, and an answer's number tells a length from a refusal.
+use Prim.Native.Nat.{ℕ, zero, suc, _+_, _*_, _≤_}
 use mathlib.Core.Path.{_≡_, refl}
 use mathlib.Core.List.{List}
 use mathlib.Core.Bool.{Bool, true, false}
 use lib.Dec.{leb}
-use borrow.Author.Tests.{leb-true, leb-false}
+use borrow.Author.Tests.{leb-true}
 use native.Mathlib.Omega.{arith}
+use Rattle.exact.specs.Faults.{_orElse_, unless, or-zero, unless-zero}
+use Rattle.exact.specs.Clauses.{Hold}
+use Rattle.exact.specs.ClauseLaws.{Told, hold-none, first-determined}
 use Rattle.layout.specs.Layout.{shape, reportLength}
 use Rattle.layout.specs.LayoutLaws.{report-length}
 use Rattle.sheet.specs.Sheet.{shapeOf, sheetHours}
@@ -15,56 +18,70 @@ use Rattle.writer.specs.Refusals.{figuresFit, refusalOf}
 use Rattle.writer.specs.Written.{writtenNumber, shortestReport, answered}
 use Rattle.writer.specs.Writable.{Writable}
 use Rattle.writer.specs.RefusalLaws.{writable}
+use Rattle.writer.specs.WriterClauses.{writerClauses}
+use Rattle.writer.specs.WriterClauseLaws.{own-length, refusal-told}
 use Rattle.writer.specs.Table.{InWriterTable}
-use Rattle.writer.specs.Table.InWriterTable.{reportWritten, misshapen, readingOutside, tooLarge, noRoom}
-use Rattle.writer.specs.declared.Written.{Written}
+use Rattle.writer.specs.Table.InWriterTable.{reportWritten, refused}
 use Rattle.writer.specs.declared.Written.the-variants.{Length, Refused}
 
-pub answer-in-table : (year quarter : ℕ) (name sheet : List ℕ) (room : ℕ) →
-    InWriterTable year quarter name sheet room (answered year quarter name sheet room)
-unfolding answered refusalOf
-answer-in-table year quarter name sheet room =
-    go (sheetHolds year quarter name sheet) refl (every readingsHold (sheetHours sheet)) refl (every figuresFit (sheetHours sheet)) refl
-    (leb (reportLength (shapeOf sheet)) room) refl
-  where
-    number : Bool → Bool → Bool → Bool → ℕ
-    number a b c d = elim a [ false ↦ 31 | true ↦ elim b [ false ↦ 32 | true ↦ elim c [ false ↦ 33 | true ↦ elim d [ false ↦ 34 | true ↦ 0 ] ] ] ]
+module _ (year quarter : ℕ) (name sheet : List ℕ) (room : ℕ) where
+  -- every answer is of a row
+  pub answer-in-table : InWriterTable year quarter name sheet room (writtenNumber (answered year quarter name sheet room))
+  unfolding answered
+  answer-in-table = go (refusalOf year quarter name sheet room) (refusal-told year quarter name sheet room)
+    where
+      go : (f : ℕ) → Told f (writerClauses year quarter name sheet room) →
+          InWriterTable year quarter name sheet room (writtenNumber (elim f [ zero ↦ Length (reportLength (shapeOf sheet)) | suc c ↦ Refused (suc c) ]))
+      go zero t = written (t .right refl)
+        where
+          written : Hold (writerClauses year quarter name sheet room) → InWriterTable year quarter name sheet room (reportLength (shapeOf sheet))
+          written h =
+              let n = h .1 .1 .1 .1 .0 in
+              let e : reportLength (shapeOf sheet) ≡ 75 + 318 * n .0 = omega (arith, own-length sheet, n .1) in
+              rw e (reportWritten (n .0) (n .1) h)
+      go (suc c) t = refused (suc c) (t .wrong c refl)
 
-    go : (a : Bool) → sheetHolds year quarter name sheet ≡ a
-        → (b : Bool) → every readingsHold (sheetHours sheet) ≡ b
-        → (c : Bool) → every figuresFit (sheetHours sheet) ≡ c
-        → (d : Bool) → leb (reportLength (shapeOf sheet)) room ≡ d
-        → InWriterTable year quarter name sheet room
-        (elim (number a b c d) [ zero ↦ Length (reportLength (shapeOf sheet)) | suc n ↦ Refused (suc n) ])
-    go false p b q c r d s = misshapen p
-    go true p false q c r d s = readingOutside p q
-    go true p true q false r d s = tooLarge p q r
-    go true p true q true r false s = noRoom p q r (leb-false _ _ s)
-    go true p true q true r true s = reportWritten p q r (leb-true _ _ s)
+  -- and there is one: each number is given under its cause and at no other time
+  pub table-determined : (a b : ℕ) → InWriterTable year quarter name sheet room a → InWriterTable year quarter name sheet room b → a ≡ b
+  table-determined a b (reportWritten n e h) (reportWritten m f k) = omega arith
+  table-determined a b (reportWritten n e h) (refused m f) = absurd (hold-none (writerClauses year quarter name sheet room) m h f)
+  table-determined a b (refused n e) (reportWritten m f k) = absurd (hold-none (writerClauses year quarter name sheet room) n k e)
+  table-determined a b (refused n e) (refused m f) = first-determined (writerClauses year quarter name sheet room) n m e f
 
--- what is not refused can be written, and the buffer has room for it
-row-written : {year quarter : ℕ} {name sheet : List ℕ} {room n : ℕ} {w : Written} → InWriterTable year quarter name sheet room w → w ≡ Length n →
-    Writable year quarter name sheet × (reportLength (shapeOf sheet) ≤ room)
-row-written (reportWritten a b c d) e = (writable _ _ _ _ a b c, d)
-row-written (misshapen a) e = absurd (let z : _≡_ {A = ℕ} 0 1 = cc in omega arith)
-row-written (readingOutside a b) e = absurd (let z : _≡_ {A = ℕ} 0 1 = cc in omega arith)
-row-written (tooLarge a b c) e = absurd (let z : _≡_ {A = ℕ} 0 1 = cc in omega arith)
-row-written (noRoom a b c d) e = absurd (let z : _≡_ {A = ℕ} 0 1 = cc in omega arith)
+  pub table-answers : (a : ℕ) → InWriterTable year quarter name sheet room a → writtenNumber (answered year quarter name sheet room) ≡ a
+  table-answers a r = table-determined (writtenNumber (answered year quarter name sheet room)) a answer-in-table r
 
-pub not-refused : (year quarter : ℕ) (name sheet : List ℕ) (room : ℕ) → refusalOf year quarter name sheet room ≡ 0 →
-    Writable year quarter name sheet × (reportLength (shapeOf sheet) ≤ room)
-unfolding answered
-not-refused year quarter name sheet room e =
-    row-written {n = reportLength (shapeOf sheet)} (answer-in-table year quarter name sheet room) (rw (e, answered))
+  -- what is not refused can be written, and the buffer has room for it
+  pub not-refused : refusalOf year quarter name sheet room ≡ 0 → Writable year quarter name sheet × (reportLength (shapeOf sheet) ≤ room)
+  unfolding refusalOf
+  not-refused e =
+      let a = or-zero (unless (sheetHolds year quarter name sheet) 31) _ e in
+      let b = or-zero (unless (every readingsHold (sheetHours sheet)) 32) _ (a .1) in
+      let c = or-zero (unless (every figuresFit (sheetHours sheet)) 33) _ (b .1) in (
+        writable year quarter name sheet (unless-zero _ 30 (a .0)) (unless-zero _ 31 (b .0)) (unless-zero _ 32 (c .0)),
+        leb-true _ _ (unless-zero (leb (reportLength (shapeOf sheet)) room) 33 (c .1)),
+      )
 
-row-tells : {year quarter : ℕ} {name sheet : List ℕ} {room : ℕ} {w : Written} → InWriterTable year quarter name sheet room w →
-    shortestReport ≤ writtenNumber w → w ≡ Length (reportLength (shapeOf sheet))
-row-tells (reportWritten a b c d) h = refl
-row-tells (misshapen a) h = absurd (omega (arith, report-length (shape 0)))
-row-tells (readingOutside a b) h = absurd (omega (arith, report-length (shape 0)))
-row-tells (tooLarge a b c) h = absurd (omega (arith, report-length (shape 0)))
-row-tells (noRoom a b c d) h = absurd (omega (arith, report-length (shape 0)))
+  refusal-small : refusalOf year quarter name sheet room ≤ 34
+  unfolding refusalOf
+  refusal-small =
+      go (sheetHolds year quarter name sheet) (every readingsHold (sheetHours sheet)) (every figuresFit (sheetHours sheet))
+      (leb (reportLength (shapeOf sheet)) room)
+    where
+      go : (a b c d : Bool) → (unless a 31 orElse unless b 32 orElse unless c 33 orElse unless d 34) ≤ 34
+      go false b c d = omega arith
+      go true false c d = omega arith
+      go true true false d = omega arith
+      go true true true false = omega arith
+      go true true true true = omega arith
 
-pub number-tells : (year quarter : ℕ) (name sheet : List ℕ) (room : ℕ) → shortestReport ≤ writtenNumber (answered year quarter name sheet room) →
-    answered year quarter name sheet room ≡ Length (reportLength (shapeOf sheet))
-number-tells year quarter name sheet room h = row-tells (answer-in-table year quarter name sheet room) h
+  pub number-tells : shortestReport ≤ writtenNumber (answered year quarter name sheet room) →
+      answered year quarter name sheet room ≡ Length (reportLength (shapeOf sheet))
+  unfolding answered
+  number-tells h = go (refusalOf year quarter name sheet room) refusal-small h
+    where
+      go : (f : ℕ) → f ≤ 34
+          → shortestReport ≤ writtenNumber (elim f [ zero ↦ Length (reportLength (shapeOf sheet)) | suc c ↦ Refused (suc c) ])
+          → elim f [ zero ↦ Length (reportLength (shapeOf sheet)) | suc c ↦ Refused (suc c) ] ≡ Length (reportLength (shapeOf sheet))
+      go zero s h = refl
+      go (suc c) s h = absurd (omega (arith, report-length (shape 0)))

@@ -4,12 +4,9 @@ use mathlib.Core.Bool.{cond}
 use mathlib.Core.List.{List, [], _∷_, _++_, map}
 use lib.Dec.{eqb}
 use lib.ListN.{length, drop}
-use Rattle.layout.specs.Layout.{recordOf, codeOf, order, shape, reportLength}
-use Rattle.layout.specs.PlaceLaws.{joinedRuns}
+use Rattle.layout.specs.Layout.{onceOrDated, recordOf, codeOf, order, shape, reportLength, joinedRuns}
 use Rattle.stamp.specs.Stamp.{stampOf}
 use Rattle.totals.specs.Totals.{quarterTotals}
-use Rattle.layout.specs.declared.Run.{Run}
-use Rattle.layout.specs.declared.Run.the-variants.{Once, Hourly, Listed}
 use Rattle.layout.specs.declared.RecordType.{RecordType}
 use Rattle.layout.specs.declared.RecordType.the-variants.{Facility}
 use Rattle.sheet.specs.Sheet.{shapeOf, sheetHours}
@@ -27,15 +24,10 @@ abbrev pub onceRecord : ℕ → ℕ → List ℕ → List ReportHour → RecordT
 onceRecord year quarter name hours t =
     cond (eqb (codeOf t) (codeOf Facility)) (facilityRecord year quarter name) (totalsRecord name (quarterTotals (recordedHours hours)))
 
--- the records of a run: the one of its type, or those of the operating hours; no other hour is listed
-abbrev pub runRecords : Run → List ℕ → List (List ℕ) → List (List ℕ)
-runRecords Once one ofHours = one ∷ []
-runRecords Hourly one ofHours = ofHours
-runRecords Listed one ofHours = ofHours
-
--- the records of a type in a report
+-- the records of a type in a report: the one, or those of the operating hours; no other hour is listed
 unfoldable pub writtenRecords : ℕ → ℕ → List ℕ → List ReportHour → RecordType → List (List ℕ)
-writtenRecords year quarter name hours t = runRecords (recordOf t .run) (onceRecord year quarter name hours t) (map (hourRecord year quarter name t) hours)
+writtenRecords year quarter name hours t =
+    onceOrDated (recordOf t .run) (onceRecord year quarter name hours t ∷ []) (map (hourRecord year quarter name t) hours)
 
 -- records as lines, one after the other
 unfoldable pub lined : List (List ℕ) → List ℕ

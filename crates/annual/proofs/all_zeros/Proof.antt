@@ -1,4 +1,3 @@
--- `annual::all_zeros` meets its contract.
 use mathlib.Core.Path.{refl}
 use Rattle.annual.specs.Joined.{allZeros}
 use Rattle.annual.proofs.all_zeros.Statement.{statement}

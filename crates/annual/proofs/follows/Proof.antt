@@ -1,10 +1,10 @@
--- `annual::follows` meets its contract: once the record is that of the quarter just before, nothing overflows.
+-- Once the record is that of the quarter just before, nothing overflows.
 use mathlib.Core.Path.{_≡_, sym, _∙_}
 use mathlib.Core.Bool.{true}
 use native.Mathlib.Omega.{arith}
 use borrow.Author.Needs.{needs}
 use borrow.Author.Tests.{not-true, not-false}
-use Rattle.layout.specs.Layout.{Within, within, quarterDigit}
+use Rattle.layout.specs.Values.{Within, within, quarterDigit}
 use Rattle.layout.specs.LayoutLaws.{within-true}
 use Rattle.annual.proofs.Tests.{no-quarter, not-before, just-before}
 use Rattle.annual.proofs.follows.Statement.{statement}

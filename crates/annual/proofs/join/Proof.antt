@@ -1,4 +1,4 @@
--- `annual::join` meets its contract: 41 before 42, and then nothing overflows.
+-- 41 before 42, and then nothing overflows.
 use mathlib.Core.Path.{_≡_, sym, _∙_}
 use mathlib.Core.Bool.{true, _&&_}
 use native.Mathlib.Omega.{arith}
@@ -19,6 +19,18 @@ followed c = c .before .before .before .before
 
 abbrev tried : tie.After-struct-known2 → tie.Else2
 tried c = c .before .before
+
+abbrev so2-next : tie.After-struct-known4 → tie.Else2
+so2-next c = tried (c .before .before)
+
+abbrev co2-next : tie.After-struct-known6 → tie.Else2
+co2-next c = so2-next (c .before .before)
+
+abbrev heat-next : tie.After-struct-known8 → tie.Else2
+heat-next c = co2-next (c .before .before)
+
+abbrev nox-next : tie.After-struct-known10 → tie.Else2
+nox-next c = heat-next (c .before .before)
 
 abbrev entry : (c : tie.After-sum-fits4) → tie.Start
 entry c = start (followed c .before)
@@ -77,20 +89,20 @@ add-t13 : tie.Need-add-t13
 add-t13 c = let f = hours-known (tried c) in omega (arith, f .one-of-four .most, f .next, f .hours, f .hours-before)
 
 add-t14 : tie.Need-add-t14
-add-t14 c = omega (arith, sums-known (tried (c .before .before)) .so2)
+add-t14 c = omega (arith, sums-known (so2-next c) .so2)
 
 add-t15 : tie.Need-add-t15
-add-t15 c = omega (arith, sums-known (tried (c .before .before .before .before)) .co2)
+add-t15 c = omega (arith, sums-known (co2-next c) .co2)
 
 add-t16 : tie.Need-add-t16
-add-t16 c = omega (arith, sums-known (tried (c .before .before .before .before .before .before)) .heat)
+add-t16 c = omega (arith, sums-known (heat-next c) .heat)
 
 add-t17 : tie.Need-add-t17
-add-t17 c = omega (arith, sums-known (tried (c .before .before .before .before .before .before .before .before)) .nox-tons)
+add-t17 c = omega (arith, sums-known (nox-next c) .nox-tons)
 
 returns-3 : tie.Need-returns-3
 returns-3 c =
-    let e = tried (c .before .before .before .before .before .before .before .before) in
+    let e = nox-next c in
     let a = entry (e .before) .args in
     sym (joined-record (a .previous) (a .year) (a .quarter) (a .answer) (does-follow (e .before)) (do-fit e))
 

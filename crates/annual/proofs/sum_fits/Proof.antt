@@ -1,4 +1,4 @@
--- `annual::sum_fits` meets its contract, also where the sum would not fit 64 bits.
+-- Also where the sum would not fit 64 bits.
 use Prim.Native.Nat.{_+_}
 use mathlib.Core.Path.{sym}
 use native.Mathlib.Omega.{arith}

@@ -1,9 +1,10 @@
--- `checker::check` meets its contract: the answer is the definition's, and the promise holds of that.
+-- The answer is the definition's, and the promise holds of that.
 use mathlib.Core.Path.{_≡_, sym, ap, _∙_}
 use mathlib.Core.List.{List}
 use Prim.Native.Nat.{ℕ}
 use Rattle.reading.specs.Reading.{readOf}
 use Rattle.reading.specs.CleanFile.{clean-file, clean-hour}
+use Rattle.reading.specs.RightFileLaws.{read-right}
 use Rattle.reading.specs.declared.Reading.the-variants.{Clean}
 use Rattle.checker.specs.Checked.{afterReading, checked}
 use Rattle.checker.specs.Promise.{Promise}
@@ -41,7 +42,7 @@ enum-known-reading-2 c = search needs
 judge-requires : tie.Need-judge-requires
 judge-requires c κs =
     let l = file (clean (c .before)) in
-    let f = clean-file l _ (said (c .before)) in
+    let f = clean-file l _ (read-right l _ (said (c .before))) in
     record { standing = f .standing; within = clean-hour l _ f }
 
 returns : tie.Need-returns

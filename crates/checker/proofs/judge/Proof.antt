@@ -1,4 +1,4 @@
--- `checker::judge` meets its contract: what is left to judge from each hour, and from each figure of it, is what is left of the whole.
+-- What is left to judge from each hour, and from each figure of it, is what is left of the whole.
 use Prim.Native.Nat.{ℕ, _+_, _-_, _<_}
 use mathlib.Core.Path.{_≡_, sym, ap, _∙_}
 use mathlib.Core.Bool.{true, false}
@@ -11,8 +11,7 @@ use Rattle.layout.specs.declared.Shape.{Shape}
 use Rattle.formulas.specs.Hour.{HourWithin}
 use Rattle.formulas.specs.Formulas.{passesTest}
 use Rattle.totals.specs.declared.Totals.{Totals}
-use Rattle.reading.specs.Places.{Stands}
-use Rattle.reading.specs.Places.{operatingPlace}
+use Rattle.reading.specs.Places.{Stands, operatingPlace}
 use Rattle.reading.specs.RankLaws.{ahead-first, ahead-some, ahead-stands}
 use Rattle.recorded.specs.ListedHours.{listedHour}
 use Rattle.recorded.specs.declared.ListedHour.{ListedHour}

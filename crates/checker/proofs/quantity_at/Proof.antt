@@ -1,4 +1,4 @@
--- `checker::quantity_at` meets its contract: past the third place stands the last quantity.
+-- Past the third place stands the last quantity.
 use Prim.Native.Nat.{ℕ, zero, suc}
 use mathlib.Core.Path.{_≡_, refl}
 use Rattle.formulas.specs.declared.hour.Quantity.the-variants.{Co2}

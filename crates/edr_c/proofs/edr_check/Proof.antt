@@ -1,4 +1,4 @@
--- `edr_c::edr_check` meets its contract: the numbers of the answer stand at the front.
+-- The numbers of the answer stand at the front.
 use mathlib.Core.Path.{sym, _∙_}
 use native.Mathlib.Omega.{arith}
 use lib.ListN.{length-set}

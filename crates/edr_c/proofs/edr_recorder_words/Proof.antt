@@ -1,4 +1,4 @@
--- `edr_c::edr_recorder_words` meets its contract: the words and the count, or the refusal's number, stand at the front.
+-- The words and the count, or the refusal's number, stand at the front.
 use Prim.Native.Nat.{_≤_}
 use mathlib.Core.Path.{_≡_, sym, ap, _∙_}
 use mathlib.Core.Bool.{true}

@@ -1,4 +1,4 @@
--- `edr_c::edr_write` meets its contract: six bytes are handed on as the name.
+-- Six bytes are handed on as the name.
 use mathlib.Core.Path.{sym, ap, _∙_}
 use Rattle.writer.specs.Written.{writtenNumber}
 use Rattle.edr_c.proofs.Filling.{six, no-name, named}

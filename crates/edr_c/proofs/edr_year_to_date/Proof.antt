@@ -1,4 +1,4 @@
--- `edr_c::edr_year_to_date` meets its contract: the record's numbers, or the refusal's, stand at the front.
+-- The record's numbers, or the refusal's, stand at the front.
 use mathlib.Core.Path.{_≡_, sym, ap₂, _∙_}
 use native.Mathlib.Omega.{arith}
 use lib.ListN.{length-set}

@@ -1,4 +1,4 @@
--- `edr_c::reading_in` meets its contract, state by state.
+-- State by state.
 use borrow.Author.Needs.{needs}
 use Rattle.edr_c.proofs.RecorderCall.{absent-in}
 use Rattle.edr_c.proofs.reading_in.Statement.{statement}

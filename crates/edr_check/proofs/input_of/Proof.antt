@@ -1,4 +1,4 @@
--- `edr_check::input_of` meets its contract: the number is below 0, above it, or 0.
+-- The number is below 0, above it, or 0.
 use Prim.Native.Nat.{ℕ, zero, suc}
 use mathlib.Core.Path.{_≡_, refl, ap, _∙_}
 use mathlib.Core.Bool.{true, false}

@@ -1,4 +1,4 @@
--- `edr_check::read_report` meets its contract: what has come lies within the report, and a read that brings nothing ends it.
+-- What has come lies within the report, and a read that brings nothing ends it.
 use Prim.Native.Nat.{ℕ, suc, _-_, _≤_}
 use mathlib.Core.Path.{_≡_, refl}
 use native.Mathlib.Omega.{arith}

@@ -1,4 +1,4 @@
--- `exact::ranges_meet` meets its contract: the second test stands where the first passes.
+-- The second test stands where the first passes.
 use borrow.Author.Tests.{lt-ltb, le-ltb}
 use Rattle.exact.specs.Behind.{meets}
 use Rattle.exact.proofs.ranges_meet.Statement.{statement}

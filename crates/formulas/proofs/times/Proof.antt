@@ -1,4 +1,4 @@
--- `formulas::times` meets its contract: a product is at most the product of the bounds.
+-- A product is at most the product of the bounds.
 use native.Mathlib.Nat.{mul-le-mul}
 use native.Mathlib.Omega.{arith}
 use Rattle.formulas.proofs.times.Statement.{statement}

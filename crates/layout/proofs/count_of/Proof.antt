@@ -1,4 +1,4 @@
--- `layout::count_of` meets its contract: the run of a type's row says it.
+-- The run of a type's row says it.
 use mathlib.Core.Path.{_≡_, sym, ap, _∙_}
 use Rattle.layout.specs.Layout.{linesOf, rowOf, countOf}
 use Rattle.layout.specs.declared.RecordType.{RecordType}

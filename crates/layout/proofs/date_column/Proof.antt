@@ -1,4 +1,3 @@
--- `layout::date_column` meets its contract.
 use mathlib.Core.Path.{ap}
 use Rattle.layout.specs.declared.Row.{Row}
 use Rattle.layout.proofs.date_column.Statement.{statement}

@@ -1,4 +1,4 @@
--- `layout::front_of` meets its contract: what stands in front of a type, by kind of run, times the counts.
+-- What stands in front of a type, by kind of run, times the counts.
 use mathlib.Core.Path.{_≡_, sym, ap, _∙_}
 use Prim.Native.Nat.{ℕ}
 use borrow.Author.Needs.{needs}

@@ -1,4 +1,4 @@
--- `layout::lead_of` meets its contract, type by type.
+-- Type by type.
 use mathlib.Core.Path.{sym, ap, _∙_}
 use Rattle.layout.specs.Lead.{leadOf}
 use borrow.Author.Needs.{needs}

@@ -1,4 +1,3 @@
--- `layout::line_length` meets its contract.
 use mathlib.Core.Path.{ap}
 use Rattle.layout.specs.LayoutLaws.{length-most}
 use Rattle.layout.specs.declared.Row.{Row}

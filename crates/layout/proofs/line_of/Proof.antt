@@ -1,4 +1,3 @@
--- `layout::line_of` meets its contract.
 use borrow.Author.Needs.{needs}
 use Rattle.layout.proofs.line_of.Statement.{statement}
 use Rattle.layout.proofs.line_of.Tie as tie

@@ -1,4 +1,4 @@
--- `layout::offset_of` meets its contract: lines of at most 100 bytes.
+-- Lines of at most 100 bytes.
 use mathlib.Core.Path.{_≡_, ap}
 use Prim.Native.Nat.{_+_, _≤_}
 use native.Mathlib.Nat.{mul-le-mul}

@@ -1,4 +1,4 @@
--- `layout::report_length` meets its contract: the last type's run ends the report.
+-- The last type's run ends the report.
 use mathlib.Core.Path.{_∙_}
 use native.Mathlib.Omega.{arith}
 use Rattle.layout.specs.LayoutLaws.{report-length}

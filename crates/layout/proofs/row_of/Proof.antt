@@ -1,4 +1,4 @@
--- `layout::row_of` meets its contract, type by type.
+-- Type by type.
 use mathlib.Core.Path.{sym, ap}
 use Rattle.columns.specs.Written.{digitsOf}
 use Rattle.layout.specs.Layout.{rowOf}

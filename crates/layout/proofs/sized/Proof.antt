@@ -1,4 +1,4 @@
--- `layout::sized` meets its contract: at most 1,000 times 2,208.
+-- At most 1,000 times 2,208.
 use Prim.Native.Nat.{_*_, _≤_}
 use native.Mathlib.Nat.{mul-le-mul}
 use native.Mathlib.Omega.{arith}

@@ -1,4 +1,4 @@
--- `layout::total_at` meets its contract, total by total.
+-- Total by total.
 use mathlib.Core.Path.{refl}
 use native.Mathlib.Omega.{arith}
 use Rattle.layout.specs.declared.RecordType.the-variants.{QuarterTotals}

@@ -1,4 +1,3 @@
--- `layout::type_code` meets its contract.
 use mathlib.Core.Path.{ap}
 use Rattle.layout.specs.declared.Row.{Row}
 use Rattle.layout.proofs.type_code.Statement.{statement}

@@ -1,4 +1,3 @@
--- `layout::type_digits` meets its contract.
 use mathlib.Core.Path.{ap}
 use Rattle.layout.specs.declared.Row.{Row}
 use Rattle.layout.proofs.type_digits.Statement.{statement}

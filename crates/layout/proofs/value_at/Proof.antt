@@ -1,4 +1,4 @@
--- `layout::value_at` meets its contract, type by type.
+-- Type by type.
 use mathlib.Core.Path.{refl, sym, ap, _∙_}
 use Prim.Native.Nat.{_<_}
 use native.Mathlib.Omega.{arith}

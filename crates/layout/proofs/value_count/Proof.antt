@@ -1,4 +1,3 @@
--- `layout::value_count` meets its contract.
 use mathlib.Core.Path.{ap}
 use Rattle.layout.specs.declared.Row.{Row}
 use Rattle.layout.proofs.value_count.Statement.{statement}

@@ -9,7 +9,8 @@ use borrow.Author.Tests.{not-true, not-false}
 use borrow.Author.Needs.{needs}
 use Rattle.columns.specs.Columns.{columns}
 use Rattle.columns.specs.Bytes.{isBlank, all}
-use Rattle.layout.specs.Layout.{lengthOf, within, yearDigits, quarterDigit}
+use Rattle.layout.specs.Layout.{lengthOf}
+use Rattle.layout.specs.Values.{within, yearDigits, quarterDigit}
 use Rattle.layout.specs.declared.RecordType.the-variants.{Facility}
 use Rattle.lines.specs.Lines.{firstLine}
 use Rattle.exact.specs.Faults.{unless}

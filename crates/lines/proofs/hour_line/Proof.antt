@@ -1,21 +1,18 @@
 -- A 200 line: its hour of the quarter, and behind it its value.
-use mathlib.Core.Path.{_≡_, refl, sym, ap, _∙_}
+use mathlib.Core.Path.{_≡_, sym, ap, _∙_}
 use mathlib.Core.List.{List}
 use Prim.Native.Nat.{ℕ}
 use native.Mathlib.Omega.{arith}
-use lib.ListN.{length, take}
 use borrow.Author.Needs.{needs}
-use Rattle.layout.specs.Layout.{lengthOf, so2Ppm}
+use Rattle.layout.specs.Values.{so2Ppm}
 use Rattle.layout.specs.declared.RecordType.the-variants.{So2Concentration}
 use Rattle.exact.specs.Faults.{or-next}
 use Rattle.lines.specs.Lines.{firstLine}
-use Rattle.lines.specs.LineFaults.{shapeFault, fieldIn, hourIn, datedFault, so2Fault, hourFault}
-use Rattle.lines.specs.FaultLaws.{dated-shape}
+use Rattle.lines.specs.LineFaults.{fieldIn, so2Fault, hourFault}
 use Rattle.lines.specs.declared.Period.{Period}
 use Rattle.lines.specs.declared.HourLine.the-variants.{At as OfHour}
 use Rattle.lines.proofs.Chains.{first-of}
-use Rattle.lines.proofs.Shapes.{line-known, line-length}
-use Rattle.lines.proofs.Answers.{dated-at, dated-not, hour-faulty, hour-of}
+use Rattle.lines.proofs.Answers.{Dated, dated-known, dated-not, hour-faulty, hour-of}
 use Rattle.lines.proofs.hour_line.Statement.{statement}
 use Rattle.lines.proofs.hour_line.Tie as tie
 
@@ -46,20 +43,8 @@ module _ (c : tie.After-known-told) where
   abbrev rest : List ℕ
   rest = start (dated c) .args .rest .now
 
-  abbrev line : List ℕ
-  line = take (lengthOf So2Concentration) rest
-
-  abbrev hour : ℕ
-  hour = c .before .dated .given .0 .0
-
-  said : (datedFault facility period So2Concentration from (firstLine rest) ≡ 0) × (hourIn period So2Concentration (firstLine rest) ≡ hour)
-  said = dated-at facility period So2Concentration from (firstLine rest) hour (sym (dated c .dated-line .ensures) ∙ c .before .dated .given .1)
-
-  fine : shapeFault So2Concentration (firstLine rest) ≡ 0
-  fine = dated-shape facility period So2Concentration from (firstLine rest) (said .0)
-
-  long : length line ≡ lengthOf So2Concentration
-  long = line-length So2Concentration rest fine (lengthOf So2Concentration) refl
+  told : Dated facility period So2Concentration from rest (c .before .dated .given .0 .0)
+  told = dated-known facility period So2Concentration from rest _ (dated c .dated-line .ensures) (c .before .dated .given .1)
 
 -- the fault of the value is the line's
 last : (c : tie.After-so2-fault) → let k = hourly c in c .so2-fault .result ≡ hourFault (facility k) (period k) (from k) (firstLine (rest k))
@@ -67,8 +52,8 @@ unfolding hourFault
 last c =
     let k = hourly c in
     c .so2-fault .ensures
-    ∙ ap (λ (l : List ℕ). so2Fault (fieldIn so2Ppm l)) (sym (line-known So2Concentration (rest k) (fine k) (lengthOf So2Concentration) refl))
-    ∙ sym (or-next _ _ (said k .0))
+    ∙ ap (λ (l : List ℕ). so2Fault (fieldIn so2Ppm l)) (sym (told k .known))
+    ∙ sym (or-next _ _ (told k .none))
 
 dated-line-requires : tie.Need-dated-line-requires
 dated-line-requires c κs = search needs
@@ -77,10 +62,10 @@ enum-known-dated : tie.Need-enum-known-dated
 enum-known-dated c = search needs
 
 slice-aggregate-so2-fault : tie.Need-slice-aggregate-so2-fault
-slice-aggregate-so2-fault c = sym (long (c .before))
+slice-aggregate-so2-fault c = sym (told (c .before) .long)
 
 so2-fault-requires : tie.Need-so2-fault-requires
-so2-fault-requires c κs = long (c .before)
+so2-fault-requires c κs = told (c .before) .long
 
 returns : tie.Need-returns
 returns c = hour-faulty _ _ _ _ _ (last (c .before)) (λ e. omega arith)
@@ -92,7 +77,7 @@ returns-2 : tie.Need-returns-2
 returns-2 c =
     let v = c .before in
     let k = hourly v in
-    ap OfHour (sym (said k .1)) ∙ hour-of (facility k) (period k) (from k) (firstLine (rest k)) (sym (last v) ∙ c .if1 .left)
+    ap OfHour (sym (told k .own)) ∙ hour-of (facility k) (period k) (from k) (firstLine (rest k)) (sym (last v) ∙ c .if1 .left)
 
 returns-3 : tie.Need-returns-3
 unfolding hourFault

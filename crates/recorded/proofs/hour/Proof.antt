@@ -2,7 +2,8 @@
 use Prim.Native.Nat.{ℕ}
 use mathlib.Core.Path.{_≡_, refl, sym, ap, _∙_}
 use Rattle.columns.specs.Number.{numberOf}
-use Rattle.layout.specs.Layout.{recordOf, valueAt, thousandsOf}
+use Rattle.layout.specs.Layout.{recordOf, valueAt}
+use Rattle.layout.specs.Values.{thousandsOf}
 use Rattle.layout.specs.declared.RecordType.{RecordType}
 use Rattle.layout.specs.declared.RecordType.the-variants.{So2Concentration, NoxConcentration, Co2Concentration, VolumetricFlow, Operation}
 use Rattle.layout.specs.declared.RecordType.the-variants.{So2Mass, NoxRate, Co2Mass}

@@ -1,10 +1,18 @@
 -- A recorded value: the number in its columns, counted from the start of the file.
 use Prim.Native.Nat.{_+_, _≤_}
+use mathlib.Core.Path.{_≡_, sym, ap, _∙_}
 use native.Mathlib.Omega.{arith}
 use lib.ListN.{length}
 use Rattle.calendar.specs.Calendar.{mostHours}
-use Rattle.layout.specs.Layout.{lengthOf, offsetOf}
-use Rattle.layout.specs.ValueLaws.{ValueInside, value-inside}
+use Rattle.columns.specs.Columns.{columns}
+use Rattle.columns.specs.Number.{fieldOf, numberOf}
+use Rattle.columns.specs.Worth.{worthOf}
+use Rattle.columns.specs.WorthLaws.{worth-number}
+use Rattle.columns.specs.declared.Field.the-variants.{Malformed}
+use Rattle.layout.specs.Layout.{lengthOf, valueAt, offsetOf, ValueInside}
+use Rattle.lines.specs.LineFaults.{fieldIn}
+use Rattle.reading.specs.Places.{lineAt}
+use Rattle.layout.specs.ValueLaws.{value-inside}
 use Rattle.reading.specs.RecordLaws.{room-for, value-at}
 use borrow.Author.Needs.{needs}
 use Rattle.recorded.proofs.value_in.Statement.{statement}
@@ -38,19 +46,26 @@ add-start c =
     let p = inside (column (c .before)) in
     omega (arith, room (c .before))
 
-read-number-requires : tie.Need-read-number-requires
-read-number-requires c κs =
+worth-requires : tie.Need-worth-requires
+worth-requires c κs =
     let p = inside (column (c .before)) in
     omega (arith, room (c .before))
 
-number-of-requires : tie.Need-number-of-requires
-number-of-requires c κs = search needs
-
 returns : tie.Need-returns
 returns c =
-    let o = c .before .before .before in
+    let o = c .before .before in
     let s = start (column o) in
-    cc (value-at (s .args .file .now) (s .args .s) (s .args .t) (s .args .p) (s .args .i) (s .pre .2))
+    let x = s .args in
+    let there = value-at (x .file .now) (x .s) (x .t) (x .p) (x .i) (s .pre .2) in
+    let formed = s .pre .0 .formed (x .t) (x .p) (s .pre .1) (x .i) (s .pre .2) in
+    let field = fieldOf (valueAt (x .t) (x .i) .decimals)
+    (columns (offsetOf (x .s) (x .t) (x .p) + valueAt (x .t) (x .i) .start) (valueAt (x .t) (x .i) .width) (x .file .now)) in
+    let n : field ≡ Malformed → ⊥ = λ m. formed (there ∙ m) in
+    let told : worthOf (valueAt (x .t) (x .i) .decimals)
+    (columns (offsetOf (x .s) (x .t) (x .p) + valueAt (x .t) (x .i) .start) (valueAt (x .t) (x .i) .width) (x .file .now))
+    ≡ numberOf (fieldIn (valueAt (x .t) (x .i)) (lineAt (x .file .now) (x .s) (x .t) (x .p) .text)) =
+    worth-number _ _ n ∙ ap numberOf (sym there) in
+    cc told
 
 pub value-in-spec : {M : Type 1} → statement M
 value-in-spec =
@@ -59,6 +74,5 @@ value-in-spec =
     value-at-requires
     offset-of-requires
     add-start
-    read-number-requires
-    number-of-requires
+    worth-requires
     returns)

@@ -1,4 +1,4 @@
--- `recorder::channel_row` meets its contract, channel by channel.
+-- Channel by channel.
 use mathlib.Core.Path.{sym, ap}
 use Rattle.recorder.specs.Parts.{channelRow}
 use Rattle.recorder.proofs.channel_row.Statement.{statement}

@@ -1,4 +1,4 @@
--- `recorder::count_at` meets its contract: half up over a power of two, and 0 where there are too many binary places.
+-- Half up over a power of two, and 0 where there are too many binary places.
 use Prim.Native.Nat.{ℕ, _-_, _*_, _≤_, _<_, _^_}
 use mathlib.Core.Path.{_≡_, sym, ap, _∙_}
 use native.Mathlib.Nat.{mul-le-mul, mul-pos, le-of-lt}

@@ -1,4 +1,4 @@
--- `recorder::float_tried` meets its contract: 45, then 46, then the number in the columns.
+-- 45, then 46, then the number in the columns.
 use Prim.Native.Nat.{_*_, _≤_, _<_, _^_}
 use mathlib.Core.Path.{_≡_, sym, ap, ap₂, _∙_}
 use mathlib.Core.Bool.{true}
@@ -8,7 +8,7 @@ use borrow.Author.Needs.{needs}
 use borrow.Author.Tests.{not-true, not-false}
 use lib.Ieee.{Float}
 use lib.Pow.{pow-pos}
-use Rattle.layout.specs.Layout.{inRange}
+use Rattle.layout.specs.Values.{inRange}
 use Rattle.layout.specs.LayoutLaws.{in-range-true}
 use Rattle.recorder.specs.Recording.{usable, unitsIn, columnOf, recordingUnit, columnNumber}
 use Rattle.recorder.specs.Parts.{floatScale, partsCount}

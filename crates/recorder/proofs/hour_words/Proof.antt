@@ -1,10 +1,10 @@
--- `recorder::hour_words` meets its contract: the first fault refuses, and without one each reading has its word.
+-- The first fault refuses, and without one each reading has its word.
 use Prim.Native.Nat.{_+_}
 use mathlib.Core.Path.{_≡_, sym, _∙_}
 use native.Mathlib.Omega.{arith}
 use borrow.Author.Needs.{needs}
 use Rattle.exact.specs.Sums.{totalOf}
-use Rattle.recorder.specs.Recording.{faultOf, wordsFor, recordedOf}
+use Rattle.recorder.specs.Recording.{faultOf, wordsFor, recordedOf, recorderNumbers}
 use Rattle.recorder.specs.Promise.{RecorderPromise}
 use Rattle.recorder.specs.RecorderLaws.{so2-refuses, nox-refuses, co2-refuses, flow-refuses, all-taken, words-made}
 use Rattle.recorder.specs.PromiseLaws.{hour-promise}
@@ -47,7 +47,7 @@ abbrev hour4 : tie.After-reading-tried4 → RecorderHour
 hour4 c = hour3 (co2-tried c)
 
 -- a result that the definition gives has the promise, too
-promised : (h : RecorderHour) {r : Recorded} → r ≡ recordedOf h → (r ≡ recordedOf h) × RecorderPromise h r
+promised : (h : RecorderHour) {r : Recorded} → r ≡ recordedOf h → (r ≡ recordedOf h) × RecorderPromise h (recorderNumbers r)
 promised h e = (e, rw e (hour-promise h))
 
 -- no fault so far

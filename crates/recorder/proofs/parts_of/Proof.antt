@@ -1,4 +1,4 @@
--- `recorder::parts_of` meets its contract: sign, exponent field and digits of the pattern are the float's value.
+-- Sign, exponent field and digits of the pattern are the float's value.
 use mathlib.Core.Path.{sym, subst}
 use borrow.Author.Needs.{needs}
 use lib.Dec.{T}

@@ -1,4 +1,4 @@
--- `recorder::reading_tried` meets its contract, state by state.
+-- State by state.
 use mathlib.Core.Path.{sym, subst}
 use borrow.Author.Needs.{needs}
 use Rattle.recorder.specs.Parts.{Tries}

@@ -1,4 +1,4 @@
--- `records::facility_record` meets its contract: the heading, the year, the quarter.
+-- The heading, the year, the quarter.
 use Rattle.records.specs.Records.{facilityRecord}
 use borrow.Author.Needs.{needs}
 use Rattle.records.proofs.facility_record.Statement.{statement}

@@ -1,4 +1,4 @@
--- `records::hour_record` meets its contract: the heading, the date and hour, the values.
+-- The heading, the date and hour, the values.
 use native.Mathlib.Omega.{arith}
 use Rattle.layout.specs.LayoutLaws.{date-fits}
 use borrow.Author.Needs.{needs}

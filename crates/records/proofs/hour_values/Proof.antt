@@ -1,4 +1,4 @@
--- `records::hour_values` meets its contract, type by type.
+-- Type by type.
 use Prim.Native.Nat.{_≤_}
 use native.Mathlib.Omega.{arith}
 use Rattle.layout.specs.Layout.{dateColumn}

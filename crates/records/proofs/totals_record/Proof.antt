@@ -1,4 +1,4 @@
--- `records::totals_record` meets its contract: the heading and the totals.
+-- The heading and the totals.
 use Rattle.records.specs.Records.{totalsRecord}
 use borrow.Author.Needs.{needs}
 use Rattle.records.proofs.totals_record.Statement.{statement}

@@ -1,4 +1,4 @@
--- `records::write_heading` meets its contract: blanks, the type, the name.
+-- Blanks, the type, the name.
 use Prim.Native.Nat.{ℕ}
 use mathlib.Core.Path.{_≡_, ap, _∙_}
 use native.Mathlib.Omega.{arith}

@@ -1,4 +1,4 @@
--- `records::write_hour` meets its contract: a record and its byte 10.
+-- A record and its byte 10.
 use Prim.Native.Nat.{ℕ, _+_, _<_}
 use mathlib.Core.Path.{sym, ap, _∙_}
 use native.Mathlib.Omega.{arith}

@@ -1,4 +1,4 @@
--- `records::write_totals` meets its contract: a record and its byte 10.
+-- A record and its byte 10.
 use native.Mathlib.Omega.{arith}
 use Rattle.layout.specs.Layout.{lengthOf}
 use Rattle.layout.specs.declared.RecordType.the-variants.{QuarterTotals}

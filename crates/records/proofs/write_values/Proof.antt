@@ -1,4 +1,4 @@
--- `records::write_values` meets its contract: the values from the i-th on, put into the line as it is, give the whole.
+-- The values from the i-th on, put into the line as it is, give the whole.
 use Prim.Native.Nat.{_-_, _≤_}
 use mathlib.Core.Path.{_≡_, refl, sym, _∙_}
 use native.Mathlib.Omega.{arith}

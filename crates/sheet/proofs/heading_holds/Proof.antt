@@ -1,11 +1,11 @@
--- `sheet::heading_holds` meets its contract, test by test.
+-- Test by test.
 use Prim.Native.Nat.{ℕ}
 use mathlib.Core.Path.{_≡_}
 use mathlib.Core.List.{List}
 use mathlib.Core.Bool.{Bool, _&&_, not}
 use borrow.Author.Needs.{needs}
 use Rattle.columns.specs.Bytes.{all, isBlank, isPrintable}
-use Rattle.layout.specs.Layout.{within, yearDigits, quarterDigit}
+use Rattle.layout.specs.Values.{within, yearDigits, quarterDigit}
 use Rattle.sheet.specs.SheetTests.{headingHolds}
 use Rattle.sheet.proofs.heading_holds.Statement.{statement}
 use Rattle.sheet.proofs.heading_holds.Tie as tie

@@ -1,4 +1,4 @@
--- `sheet::hour_at` meets its contract: six values, in their order.
+-- Six values, in their order.
 use Prim.Native.Nat.{ℕ, _*_, _/_, _%_}
 use mathlib.Core.Path.{_≡_}
 use mathlib.Core.List.{List}

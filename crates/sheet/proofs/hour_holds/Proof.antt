@@ -1,4 +1,3 @@
--- `sheet::hour_holds` meets its contract.
 use mathlib.Core.Path.{refl}
 use Rattle.sheet.specs.SheetTests.{hourHolds}
 use Rattle.sheet.proofs.hour_holds.Statement.{statement}

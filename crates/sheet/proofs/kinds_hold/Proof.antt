@@ -1,4 +1,4 @@
--- `sheet::kinds_hold` meets its contract: the kinds from word j of the hour on decide as all six do.
+-- The kinds from word j of the hour on decide as all six do.
 use Prim.Native.Nat.{_-_, _≤_}
 use mathlib.Core.Path.{_≡_, refl, ap, _∙_}
 use native.Mathlib.Omega.{arith}

@@ -1,8 +1,8 @@
--- `sheet::readings_hold` meets its contract, value by value.
+-- Value by value.
 use mathlib.Core.Path.{_≡_}
 use mathlib.Core.Bool.{Bool, _&&_}
 use borrow.Author.Needs.{needs}
-use Rattle.layout.specs.Layout.{within, timeHours, so2Ppm, noxPpm, co2Percent, flowScfh, fFactor}
+use Rattle.layout.specs.Values.{within, timeHours, so2Ppm, noxPpm, co2Percent, flowScfh, fFactor}
 use Rattle.sheet.specs.SheetTests.{readingsHold}
 use Rattle.sheet.specs.declared.SheetHour.{SheetHour}
 use Rattle.sheet.proofs.readings_hold.Statement.{statement}

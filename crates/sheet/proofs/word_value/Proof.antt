@@ -1,4 +1,3 @@
--- `sheet::word_value` meets its contract.
 use borrow.Author.Needs.{needs}
 use Rattle.sheet.proofs.word_value.Statement.{statement}
 use Rattle.sheet.proofs.word_value.Tie as tie

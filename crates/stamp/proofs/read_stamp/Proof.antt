@@ -1,4 +1,4 @@
--- `stamp::read_stamp` meets its contract: the law `stamp-by-pairs`, with the four pairs that were read.
+-- The law `stamp-by-pairs`, with the four pairs that were read.
 use mathlib.Core.Path.{_≡_, _∙_, sym}
 use borrow.Author.Tests.{eq-eqb, ne-eqb}
 use Rattle.columns.specs.Columns.{columns}

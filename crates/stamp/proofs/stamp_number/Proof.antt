@@ -1,4 +1,4 @@
--- `stamp::stamp_number` meets its contract: the number is that of the date of the hour.
+-- The number is that of the date of the hour.
 use mathlib.Core.Path.{_∙_, ap}
 use Rattle.calendar.specs.CalendarLaws.{date-of-hour-two-digits}
 use Rattle.stamp.specs.Stamp.{dateNumber, stampNumber}

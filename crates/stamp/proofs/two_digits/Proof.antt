@@ -1,4 +1,4 @@
--- `stamp::two_digits` meets its contract: by units that are no digit, and units that are one.
+-- By units that are no digit, and units that are one.
 use mathlib.Core.Path.{_∙_}
 use native.Mathlib.Omega.{arith}
 use Rattle.stamp.specs.PairLaws.{low-units, high-units, digit-units}

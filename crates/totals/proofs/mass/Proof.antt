@@ -2,7 +2,7 @@
 use Prim.Native.Nat.{_*_, _≤_}
 use native.Mathlib.Nat.{mul-le-mul}
 use native.Mathlib.Omega.{arith}
-use Rattle.layout.specs.Layout.{noxRate, heatRate, timeHours}
+use Rattle.layout.specs.Values.{noxRate, heatRate, timeHours}
 use Rattle.totals.proofs.mass.Statement.{statement}
 use Rattle.totals.proofs.mass.Tie as tie
 

@@ -1,4 +1,4 @@
--- `writer::write` meets its contract: a refusal writes nothing, and a sheet that is not refused gives its report.
+-- A refusal writes nothing, and a sheet that is not refused gives its report.
 use Prim.Native.Nat.{_≤_}
 use mathlib.Core.Path.{_≡_, sym, _∙_}
 use lib.ListN.{length}

@@ -2,7 +2,7 @@
 use mathlib.Core.Path.{ap₂}
 use mathlib.Core.Bool.{_&&_}
 use borrow.Author.Needs.{needs}
-use Rattle.layout.specs.Layout.{within}
+use Rattle.layout.specs.Values.{within}
 use Rattle.layout.proofs.values.within.Statement.{statement}
 use Rattle.layout.proofs.values.within.Tie as tie
 

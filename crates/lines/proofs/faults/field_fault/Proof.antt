@@ -6,7 +6,7 @@ use borrow.Author.Needs.{needs}
 use borrow.Author.Tests.{not-true, not-false}
 use Rattle.columns.specs.declared.Field.{Field}
 use Rattle.columns.specs.declared.Field.the-variants.{Number}
-use Rattle.layout.specs.Layout.{inRange, wholeSteps}
+use Rattle.layout.specs.Values.{inRange, wholeSteps}
 use Rattle.layout.specs.declared.values.Value.{Value}
 use Rattle.exact.specs.Faults.{_orElse_, unless}
 use Rattle.lines.specs.LineFaults.{fieldFault}

@@ -3,7 +3,7 @@ use mathlib.Core.Path.{_≡_, ap, _∙_}
 use Prim.Native.Nat.{ℕ}
 use Rattle.columns.specs.declared.Field.{Field}
 use Rattle.columns.specs.declared.Field.the-variants.{Number}
-use Rattle.layout.specs.Layout.{so2Ppm}
+use Rattle.layout.specs.Values.{so2Ppm}
 use Rattle.lines.specs.LineFaults.{fieldFault, fieldIn, so2Fault}
 use borrow.Author.Needs.{needs}
 use Rattle.lines.proofs.gas.so2_fault.Statement.{statement}

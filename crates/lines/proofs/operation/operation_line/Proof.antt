@@ -1,21 +1,19 @@
 -- A 300 line: its hour of the quarter, and behind it its time.
-use mathlib.Core.Path.{_≡_, refl, sym, ap, _∙_}
+use mathlib.Core.Path.{_≡_, sym, ap, _∙_}
 use mathlib.Core.List.{List}
 use mathlib.Core.Bool.{cond}
 use Prim.Native.Nat.{ℕ}
-use lib.ListN.{length, take}
+use lib.ListN.{take}
 use borrow.Author.Needs.{needs}
 use Rattle.layout.specs.Layout.{lengthOf}
 use Rattle.layout.specs.declared.RecordType.the-variants.{Operation}
 use Rattle.exact.specs.Faults.{or-next}
 use Rattle.lines.specs.Lines.{firstLine}
-use Rattle.lines.specs.LineFaults.{shapeFault, hourIn, datedFault, timedFault, operationFault, saidOf, operates, operationOf, operationLine}
-use Rattle.lines.specs.FaultLaws.{dated-shape}
+use Rattle.lines.specs.LineFaults.{hourIn, timedFault, operationFault, saidOf, operates, operationOf, operationLine}
 use Rattle.lines.specs.declared.Period.{Period}
 use Rattle.lines.specs.declared.operation.OperationLine.the-variants.{Operating, Idle}
 use Rattle.lines.proofs.Chains.{first-of}
-use Rattle.lines.proofs.Shapes.{line-known, line-length}
-use Rattle.lines.proofs.Answers.{dated-at, dated-not, operation-faulty}
+use Rattle.lines.proofs.Answers.{Dated, dated-known, dated-not, operation-faulty}
 use Rattle.lines.proofs.operation.operation_line.Statement.{statement}
 use Rattle.lines.proofs.operation.operation_line.Tie as tie
 
@@ -49,21 +47,12 @@ module _ (c : tie.After-known-told) where
   abbrev hour : ℕ
   hour = c .before .dated .given .0 .0
 
-  said : (datedFault facility period Operation from (firstLine rest) ≡ 0) × (hourIn period Operation (firstLine rest) ≡ hour)
-  said = dated-at facility period Operation from (firstLine rest) hour (sym (dated c .dated-line .ensures) ∙ c .before .dated .given .1)
-
-  fine : shapeFault Operation (firstLine rest) ≡ 0
-  fine = dated-shape facility period Operation from (firstLine rest) (said .0)
-
-  long : length line ≡ lengthOf Operation
-  long = line-length Operation rest fine (lengthOf Operation) refl
-
-  known : line ≡ firstLine rest
-  known = sym (line-known Operation rest fine (lengthOf Operation) refl)
+  told : Dated facility period Operation from rest hour
+  told = dated-known facility period Operation from rest hour (dated c .dated-line .ensures) (c .before .dated .given .1)
 
   behind : (date : List ℕ) → operationOf (timedFault date line) hour line ≡ operationLine facility period from date (firstLine rest)
   unfolding operationLine operationFault
-  behind date = rw (known, or-next _ _ (said .0), said .1)
+  behind date = rw (← told .known, or-next _ _ (told .none), told .own)
 
 dated-line-requires : tie.Need-dated-line-requires
 dated-line-requires c κs = search needs
@@ -72,10 +61,10 @@ enum-known-dated : tie.Need-enum-known-dated
 enum-known-dated c = search needs
 
 slice-aggregate-timed-line : tie.Need-slice-aggregate-timed-line
-slice-aggregate-timed-line c = sym (long (c .before))
+slice-aggregate-timed-line c = sym (told (c .before) .long)
 
 timed-line-requires : tie.Need-timed-line-requires
-timed-line-requires c κs = long (c .before)
+timed-line-requires c κs = told (c .before) .long
 
 enum-known-dated-2 : tie.Need-enum-known-dated-2
 enum-known-dated-2 c = search needs

@@ -7,7 +7,7 @@ use native.Mathlib.Omega.{arith}
 use borrow.Author.Needs.{needs}
 use borrow.Author.Tests.{lt-ltb, le-ltb}
 use Rattle.columns.specs.Number.{numberOf}
-use Rattle.layout.specs.Layout.{listedTime, heatRate}
+use Rattle.layout.specs.Values.{listedTime, heatRate}
 use Rattle.exact.specs.Faults.{or-next}
 use Rattle.lines.specs.LineFaults.{fieldFault, fieldIn, timeIn, operates, idleFault, operatingFault, timedFault, saidOf, operationOf}
 use Rattle.lines.specs.declared.operation.OperationLine.{OperationLine}

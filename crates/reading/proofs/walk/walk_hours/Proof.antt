@@ -153,7 +153,7 @@ add-n : tie.Need-add-n Inv-loop μ-loop
 add-n c = omega (arith, next c .rise, next c .most)
 
 add-at : tie.Need-add-at Inv-loop μ-loop
-add-at c = omega (arith, next c .place, next c .room, next c .rise, next c .most)
+add-at c = omega (arith, next c .start, next c .room, next c .rise, next c .most)
 
 loop-less : tie.Need-loop-less Inv-loop μ-loop
 loop-less c = omega arith

@@ -1,8 +1,8 @@
--- `writer::refusals::figures_hold` meets its contract, figure by figure.
+-- Figure by figure.
 use mathlib.Core.Path.{_≡_}
 use mathlib.Core.Bool.{Bool, _&&_}
 use borrow.Author.Needs.{needs}
-use Rattle.layout.specs.Layout.{within, heatRate, so2Rate, noxRate, co2Rate}
+use Rattle.layout.specs.Values.{within, heatRate, so2Rate, noxRate, co2Rate}
 use Rattle.formulas.specs.declared.hour.Figures.{Figures}
 use Rattle.writer.specs.Refusals.{figuresHold}
 use Rattle.writer.proofs.refusals.figures_hold.Statement.{statement}

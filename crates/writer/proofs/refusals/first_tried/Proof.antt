@@ -1,4 +1,3 @@
--- `writer::refusals::firstTried` meets its contract.
 use Rattle.writer.proofs.OnePass.{tried-second, tried-first, tried-least, tried-kept}
 use Rattle.writer.proofs.refusals.first_tried.Statement.{statement}
 use Rattle.writer.proofs.refusals.first_tried.Tie as tie

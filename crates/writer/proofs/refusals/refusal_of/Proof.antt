@@ -1,4 +1,4 @@
--- `writer::refusals::refusal` meets its contract: what one pass over the hours finds is what the tests find in their order.
+-- What one pass over the hours finds is what the tests find in their order.
 use mathlib.Core.Path.{_≡_, sym, ap, _∙_}
 use mathlib.Core.Bool.{true}
 use borrow.Author.Needs.{needs}

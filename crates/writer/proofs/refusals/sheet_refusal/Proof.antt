@@ -1,4 +1,4 @@
--- `writer::refusals::sheet_refusal` meets its contract: the hours from hour k on, with what was found before, give what all give.
+-- The hours from hour k on, with what was found before, give what all give.
 use Prim.Native.Nat.{_-_, _≤_, _<_}
 use mathlib.Core.Path.{_≡_, sym, ap, _∙_}
 use mathlib.Core.Bool.{true}

@@ -1,4 +1,3 @@
--- `writer::report::recorded_hour` meets its contract.
 use borrow.Author.Needs.{needs}
 use Rattle.writer.proofs.report.recorded_hour.Statement.{statement}
 use Rattle.writer.proofs.report.recorded_hour.Tie as tie

@@ -1,4 +1,4 @@
--- `writer::report::write_hour_lines` meets its contract: a line of each type.
+-- A line of each type.
 use mathlib.Core.Path.{_≡_, ap, _∙_}
 use native.Mathlib.Omega.{arith}
 use lib.Dec.{lit≤}

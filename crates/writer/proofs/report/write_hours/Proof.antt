@@ -1,4 +1,4 @@
--- `writer::report::write_hours` meets its contract: what is left of the lines, put into the buffer as it is, gives all lines, and the
+-- What is left of the lines, put into the buffer as it is, gives all lines, and the
 -- totals so far, grown by the hours that are left, are those of all.
 use Prim.Native.Nat.{ℕ, _-_, _<_}
 use mathlib.Core.Path.{_≡_, ap, _∙_}

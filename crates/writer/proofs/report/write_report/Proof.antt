@@ -1,4 +1,4 @@
--- `writer::report::write_report` meets its contract: line 100, the hours, and line 301 among them.
+-- Line 100, the hours, and line 301 among them.
 use Prim.Native.Nat.{ℕ, _+_}
 use mathlib.Core.Path.{_≡_, ap, _∙_}
 use mathlib.Core.List.{List}
