@@ -11,16 +11,12 @@ use lib.Pow.{pow-add}
 use lib.ListN.{length, take, drop, length-append, length-drop, take-append-drop}
 use lib.Seq.{length-take-le, take-at, drop-at}
 use borrow.Author.Tests.{eqb-true, eq-eqb, ne-eqb, leb-true, le-leb}
-use Rattle.exact.specs.Logic.{both}
+use Rattle.exact.specs.Logic.{clash, both}
 use Rattle.columns.specs.Bytes.{isBlank, isDigit, all}
 use Rattle.columns.specs.Number.{digitsFrom, digitsOnly, wholeOf, decimalsBehind, fixedOf, fieldOf}
 use Rattle.columns.specs.Format.{Digits, decimal, Blanks, DigitsOnly, InFormat}
 use Rattle.columns.specs.declared.Field.{Field}
 use Rattle.columns.specs.declared.Field.the-variants.{Blank, Malformed, Number}
-
--- from what cannot be
-clash : {A : Type 0} → _≡_ {A = ℕ} 0 1 → A
-clash z = absurd (omega arith)
 
 -- digits behind digits worth `before`
 

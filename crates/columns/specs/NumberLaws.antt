@@ -11,6 +11,7 @@ use lib.Pow.{pow-add}
 use lib.ListN.{length, take, drop, length-drop, take-append-drop}
 use lib.Seq.{length-take-le}
 use borrow.Author.Tests.{leb-true}
+use Rattle.exact.specs.Logic.{clash}
 use Rattle.columns.specs.Bytes.{isBlank, isDigit, all}
 use Rattle.columns.specs.BytesLaws.{all-append, all-take, all-drop}
 use Rattle.columns.specs.Number.{digitsFrom, digitsOnly, wholeOf, decimalsBehind, fixedOf, fieldOf, isEmpty, numberOf, digitsHeld, fewestColumns}
@@ -18,10 +19,6 @@ use Rattle.columns.specs.Columns.{columns}
 use Rattle.columns.specs.ColumnsLaws.{columns-length}
 use Rattle.columns.specs.declared.Field.{Field}
 use Rattle.columns.specs.declared.Field.the-variants.{Blank, Malformed, Number}
-
--- from what cannot be
-clash : {A : Type 0} → _≡_ {A = ℕ} 0 1 → A
-clash z = absurd (omega arith)
 
 digit-most : (b : ℕ) → isDigit b ≡ true → b - 48 ≤ 9
 digit-most b h = go (leb 48 b) h

@@ -8,15 +8,13 @@ use lib.Dec.{eqb, leb}
 use lib.ListN.{length, take, drop}
 use lib.Seq.{drop-drop}
 use borrow.Author.Tests.{leb-true, eqb-true}
+use Rattle.exact.specs.Logic.{clash}
 use Rattle.columns.specs.Bytes.{isBlank, isDigit, all}
 use Rattle.columns.specs.Number.{digitsFrom, wholeOf, decimalsBehind, fixedOf, fieldOf, numberOf, pointIn}
 use Rattle.columns.specs.Worth.{lowFrom, fixedWorth, worthOf}
 use Rattle.columns.specs.NumberLaws.{digits-never-blank}
 use Rattle.columns.specs.declared.Field.{Field}
 use Rattle.columns.specs.declared.Field.the-variants.{Blank, Malformed, Number}
-
-clash : {A : Type 0} → _≡_ {A = ℕ} 0 1 → A
-clash z = absurd (omega arith)
 
 low-digit : (b : ℕ) → isDigit b ≡ true → b % 16 ≡ b - 48
 low-digit b h = go (leb 48 b) refl h

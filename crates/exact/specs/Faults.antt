@@ -21,6 +21,10 @@ or-first (suc a) b h = refl
 pub or-next : (a b : ℕ) → a ≡ 0 → a orElse b ≡ b
 or-next a b h = rw h
 
+pub or-none : (a b : ℕ) → b ≡ 0 → a orElse b ≡ a
+or-none zero b h = h
+or-none (suc a) b h = refl
+
 pub or-zero : (a b : ℕ) → a orElse b ≡ 0 → (a ≡ 0) × (b ≡ 0)
 or-zero zero b e = (refl, e)
 or-zero (suc a) b e = absurd (omega arith)

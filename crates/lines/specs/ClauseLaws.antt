@@ -9,7 +9,7 @@ use lib.Dec.{eqb, leb}
 use lib.ListN.{length, take}
 use borrow.Author.Tests.{eqb-true, eq-eqb, leb-true, le-leb, lt-ltb}
 use Rattle.exact.specs.Logic.{agree}
-use Rattle.exact.specs.Faults.{_orElse_, unless}
+use Rattle.exact.specs.Faults.{unless, or-none}
 use Rattle.exact.specs.Clauses.{Clause, clause, when}
 use Rattle.exact.specs.ClauseLaws.{Told, told-or, told-by, told-one, told-then, told-skip, told-more, never, told-when, Numbered}
 use Rattle.columns.specs.Bytes.{isPrintable, all, same}
@@ -182,15 +182,11 @@ so2-told line (Number n) r =
     let t = told-one (inRange so2Ppm n) 8 ((k : ℕ) → Reads so2Reading line k → k ≤ 99_999)
     (λ e k q. let b : InRange so2Ppm k = rw (read-same so2Reading line n k r q) at (in-range-true so2Ppm n e) in b .1)
     (λ p. true-in-range so2Ppm n (omega arith, p n here)) in
-    let z = or-none (unless (inRange so2Ppm n) 9) in
+    let z = or-none (unless (inRange so2Ppm n) 9) 0 refl in
     record {
       right = λ e. (inr (n, here), t .right (sym z ∙ rw w at e));
       wrong = λ c e. inr (inr (n, here), t .wrong c (sym z ∙ rw w at e));
     }
-  where
-    or-none : (a : ℕ) → (a orElse 0) ≡ a
-    or-none zero = refl
-    or-none (suc a) = refl
 
 pub hour-told : (facility : List ℕ) (p : Period) (from : ℕ) (line : List ℕ) → Told (hourFault facility p from line) (hourClauses facility p from line)
 unfolding hourFault

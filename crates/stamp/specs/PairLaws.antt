@@ -10,6 +10,7 @@ use lib.Dec.{eqb, ltb}
 use lib.ListN.{length, take, drop, getD, length-drop}
 use lib.Seq.{drop-cons, drop-drop}
 use borrow.Author.Tests.{ne-eqb, le-leb, lt-leb, lt-ltb, le-ltb}
+use Rattle.exact.specs.Logic.{clash}
 use Rattle.columns.specs.Bytes.{isDigit}
 use Rattle.columns.specs.Columns.{Inside, columns}
 use Rattle.columns.specs.Number.{digitsFrom, digitsOnly}
@@ -23,10 +24,6 @@ use Rattle.calendar.specs.declared.QuarterHour.{QuarterHour}
 use Rattle.calendar.specs.declared.QuarterHour.the-variants.{Outside}
 use Rattle.stamp.specs.Stamp.{numberHour, fieldHour, stampHour}
 use Rattle.stamp.specs.Pairs.{pairWidth, pairField}
-
--- from what cannot be
-clash : {A : Type 0} → _≡_ {A = ℕ} 0 1 → A
-clash z = absurd (omega arith)
 
 -- one pair: its bytes, units that are no digit, and tens of any kind before units that are a digit
 pair-bytes :

@@ -1,16 +1,12 @@
 -- Each total's fault joins those of the totals before it.
 use Prim.Native.Nat.{ℕ, zero, suc}
-use mathlib.Core.Path.{_≡_, refl, ap, _∙_}
+use mathlib.Core.Path.{_≡_, refl, sym, ap, _∙_}
 use lib.ListN.{drop}
 use borrow.Author.Needs.{needs}
-use Rattle.exact.specs.Faults.{_orElse_}
+use Rattle.exact.specs.Faults.{_orElse_, or-none}
 use Rattle.checker.specs.Checked.{statedTotals, firstDiffering}
 use Rattle.checker.proofs.totals_fault.Statement.{statement}
 use Rattle.checker.proofs.totals_fault.Tie as tie
-
-alone : (fault : ℕ) → fault ≡ fault orElse 0
-alone zero = refl
-alone (suc fault) = refl
 
 -- a fault found and joined by the next total's, and what follows
 joined : (found own rest : ℕ) {fault : ℕ} → fault ≡ found orElse own → fault orElse rest ≡ found orElse (own orElse rest)
@@ -45,7 +41,7 @@ returns c =
     let f = so2 .before .args .formed in
     let s = so2 .before .args .stated in
     let behind : ℕ → ℕ = λ n. firstDiffering (drop n statedTotals) f s in
-    alone (c .first-fault5 .result)
+    sym (or-none (c .first-fault5 .result) 0 refl)
     ∙ joined (nox .first-fault4 .result) _ (behind 5) (c .first-fault5 .ensures)
     ∙ joined (heat .first-fault3 .result) _ (behind 4) (nox .first-fault4 .ensures)
     ∙ joined (co2 .first-fault2 .result) _ (behind 3) (heat .first-fault3 .ensures)
