@@ -1,6 +1,7 @@
-/* How many bytes of stack edr_write, edr_check and edr_year_to_date use on a full quarter, and edr_recorder_words on an hour. Each is
-   called on a stack that is filled with one byte, and the lowest byte that has changed tells. Arguments, return addresses and what a
-   function keeps below its stack pointer count. */
+/* How many bytes of stack edr_write, edr_check and edr_year_to_date use on a full quarter, and edr_recorder_words on an hour; and
+   edr_check on a quarter that it refuses for a 220 line, which is then looked at test by test. Each is called on a stack that is filled
+   with one byte, and the lowest byte that has changed tells. Arguments, return addresses and what a function keeps below its stack
+   pointer count. */
 #include <inttypes.h>
 #include <stdio.h>
 #include <string.h>
@@ -79,5 +80,7 @@ int main(void)
     measure("edr_check", call_check);
     measure("edr_year_to_date", call_year_to_date);
     measure("edr_recorder_words", call_recorder_words);
+    report[LENGTH / 2] = '\n';
+    measure("edr_check, with a line too short,", call_check);
     return 0;
 }

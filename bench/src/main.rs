@@ -1,72 +1,104 @@
-//! On a full quarter of 2,208 operating hours, in one run and with warm buffers: the proved check and writer, those of the second
-//! implementation, and a plain pass over as many bytes; and the proved check on that quarter with every other hour idle. They take turns;
-//! the best time of each is printed.
+//! In one run and with warm buffers: the proved check and an expert's check in C on several files; on a full quarter of 2,208 operating hours
+//! the second implementation and a plain pass over as many bytes too; and the proved writer, the second one and a plain copy. Before any is
+//! timed, their answers are compared. Where `bench/run` is given a library of another state, its check takes turns as well.
 //!
 //! `bench check-only N` and `bench write-only N` only check or write N times, for a profiler.
 
+mod files;
+mod race;
+
 use std::hint::black_box;
 use std::process::ExitCode;
-use std::time::Instant;
 
-use edr::Written;
-use second::generate::{recorder, sheets};
+use edr::{Answer, Quarter, Written};
+use second::generate::sheets;
 use second::random::Random;
 use second::write::Order;
 
-const YEAR: u32 = 2005;
-const QUARTER: u32 = 3;
-const HOURS: usize = edr::MOST_HOURS;
-const ROUNDS: usize = 100;
+use files::{File, HOURS, QUARTER, YEAR};
+use race::{race, runner, ROUNDS};
 
-/// One of those that are timed, and its best time so far in microseconds.
-struct Runner<'a> {
-    name: &'static str,
-    work: Box<dyn FnMut() + 'a>,
-    best: f64,
+extern "C" {
+    fn expert_check(file: *const u8, length: usize, answer: *mut u64) -> i32;
+
+    #[cfg(before)]
+    fn edr_check_before(file: *const u8, length: usize, answer: *mut u64, room: usize) -> u64;
 }
 
-fn runner<'a, T>(name: &'static str, mut work: impl FnMut() -> T + 'a) -> Runner<'a> {
-    let work = Box::new(move || drop(black_box(work())));
-    Runner { name, work, best: f64::INFINITY }
-}
-
-impl Runner<'_> {
-    /// Works once to warm the buffers and once against the clock.
-    fn turn(&mut self) {
-        (self.work)();
-        let start = Instant::now();
-        (self.work)();
-        self.best = self.best.min(start.elapsed().as_secs_f64() * 1e6);
+/// An answer by its numbers.
+fn answer(accepted: bool, numbers: [u64; 6]) -> Answer {
+    let [hours, so2, co2, heat, nox, nox_tons] = numbers;
+    if accepted {
+        Answer::Accepted(Quarter { hours, so2, co2, heat, nox, nox_tons })
+    } else {
+        Answer::Refused { number: hours, line: so2 }
     }
 }
 
-/// Times the runners in turn and prints a table; the first is the proved one, the last the plain pass.
-fn race<const RUNNERS: usize>(title: &str, mut runners: [Runner; RUNNERS]) {
-    for _ in 0..ROUNDS {
-        runners.iter_mut().for_each(Runner::turn);
+fn expert(file: &[u8]) -> Answer {
+    let mut numbers = [0; 6];
+    // SAFETY: it reads the file and writes at most six numbers.
+    let accepted = unsafe { expert_check(file.as_ptr(), file.len(), numbers.as_mut_ptr()) };
+    answer(accepted == 1, numbers)
+}
+
+/// The check of the other library.
+#[cfg(before)]
+fn before(file: &[u8]) -> Answer {
+    let mut numbers = [0; 6];
+    // SAFETY: as `edr_check`, whose other state it is.
+    let accepted =
+        unsafe { edr_check_before(file.as_ptr(), file.len(), numbers.as_mut_ptr(), numbers.len()) };
+    answer(accepted == 1, numbers)
+}
+
+/// All checks give the same answer, and it is the one that the file is to have.
+fn assert_answers(file: &File) {
+    let proved = edr::check(&file.bytes);
+    assert!(proved.to_string().starts_with(&file.answer), "{}: {proved}", file.name);
+    assert_eq!(proved.to_string(), second::check::check(&file.bytes).to_string(), "{}", file.name);
+    assert_eq!(proved, expert(&file.bytes), "{}", file.name);
+    #[cfg(before)]
+    assert_eq!(proved, before(&file.bytes), "{}", file.name);
+}
+
+/// The proved check in turn with the expert's, and with that of the other library if there is one.
+fn race_files(files: &[File]) {
+    let others = if cfg!(before) { format!("{:>12}{:>12}", "before", "to before") } else { String::new() };
+    println!(
+        "{:<24}{:>10}{:>12}{:>12}{:>12}{others}",
+        "check, microseconds", "bytes", "proved", "in C", "to C"
+    );
+    for File { name, bytes, .. } in files {
+        let runners = [
+            runner(|| edr::check(black_box(bytes))),
+            runner(|| expert(black_box(bytes))),
+            #[cfg(before)]
+            runner(|| before(black_box(bytes))),
+        ];
+        let times = race(runners);
+        print!("  {name:<22}{:>10}{:>12.3}", bytes.len(), times[0]);
+        times[1..].iter().for_each(|time| print!("{time:>12.3}{:>12.2}", times[0] / time));
+        println!();
     }
-    let (proved, plain) = (runners[0].best, runners[RUNNERS - 1].best);
+}
+
+/// A table of those that took turns; the first is the proved one, the last the plain pass.
+fn print_times<const RUNNERS: usize>(title: &str, names: [&str; RUNNERS], times: [f64; RUNNERS]) {
     println!("{title:<24}{:>14}{:>12}{:>12}", "microseconds", "to proved", "to plain");
-    for Runner { name, best, .. } in &runners {
-        println!("  {name:<22}{best:>14.1}{:>12.2}{:>12.2}", best / proved, best / plain);
+    for (name, time) in names.iter().zip(times) {
+        println!("  {name:<22}{time:>14.1}{:>12.2}{:>12.2}", time / times[0], time / times[RUNNERS - 1]);
     }
 }
 
-/// An honest report of the quarter, as a recorder writes it.
-fn recorded_file() -> Vec<u8> {
-    let mut random = Random::new(1);
-    let report = recorder::report_in(&mut random, YEAR, QUARTER, HOURS);
-    recorder::bytes(&mut random, &report)
-}
-
-/// The same with every other hour listed as idle.
-fn half_idle_file() -> Vec<u8> {
-    let mut random = Random::new(1);
-    let mut report = recorder::report_in(&mut random, YEAR, QUARTER, HOURS);
-    report.hours.retain(|hour| hour.hour_of_quarter % 2 == 0);
-    report.idle_hours = (1..HOURS as u32).step_by(2).collect();
-    report.add_up();
-    recorder::bytes(&mut random, &report)
+fn race_checks(file: &[u8]) {
+    let sum = || black_box(file).iter().map(|&byte| u64::from(byte)).sum::<u64>();
+    let times = race([
+        runner(|| edr::check(black_box(file))),
+        runner(|| second::check::check(black_box(file))),
+        runner(sum),
+    ]);
+    print_times("check, full quarter", ["proved", "second", "adding up the bytes"], times);
 }
 
 /// A sheet of the quarter.
@@ -88,57 +120,31 @@ fn written_file(order: &Order) -> Vec<u8> {
     proved
 }
 
-/// Both checks accept the file, with so many operating hours and the same totals.
-fn assert_accepted(file: &[u8], hours: usize) {
-    let answer = edr::check(file).to_string();
-    assert!(answer.starts_with(&format!("accepted {hours} ")), "{answer}");
-    assert_eq!(answer, second::check::check(file).to_string());
-}
-
-fn race_checks(file: &[u8], half_idle: &[u8]) {
-    assert_accepted(file, HOURS);
-    assert_accepted(half_idle, HOURS / 2);
-    let sum = || black_box(file).iter().map(|&byte| u64::from(byte)).sum::<u64>();
-    race(
-        "check",
-        [
-            runner("proved", || edr::check(black_box(file))),
-            runner("proved, half idle", || edr::check(black_box(half_idle))),
-            runner("second", || second::check::check(black_box(file))),
-            runner("adding up the bytes", sum),
-        ],
-    );
-}
-
 fn race_writers() {
     let order = &order();
     let file = &written_file(order);
     let [mut proved, mut second, mut plain] = [(); 3].map(|()| file.clone());
-    race(
-        "write",
-        [
-            runner("proved", || proved_write(black_box(order), black_box(&mut proved))),
-            runner("second", || second::write::write(black_box(order), black_box(&mut second))),
-            runner("copying the bytes", || black_box(&mut plain).copy_from_slice(black_box(file))),
-        ],
-    );
+    let times = race([
+        runner(|| proved_write(black_box(order), black_box(&mut proved))),
+        runner(|| second::write::write(black_box(order), black_box(&mut second))),
+        runner(|| black_box(&mut plain).copy_from_slice(black_box(file))),
+    ]);
+    print_times("write, full quarter", ["proved", "second", "copying the bytes"], times);
 }
 
 fn race_all() {
-    let (file, half_idle) = (recorded_file(), half_idle_file());
-    println!(
-        "{HOURS} hours, {} bytes; half idle, {} bytes; best of {ROUNDS} rounds",
-        file.len(),
-        half_idle.len()
-    );
-    race_checks(&file, &half_idle);
+    let files = files::all();
+    files.iter().for_each(assert_answers);
+    println!("{HOURS} hours in a full quarter; medians of {ROUNDS} rounds");
+    race_files(&files);
+    race_checks(&files[0].bytes);
     race_writers();
 }
 
 fn check_only(times: usize) {
-    let file = recorded_file();
+    let file = files::full();
     for _ in 0..times {
-        black_box(edr::check(black_box(&file)));
+        black_box(edr::check(black_box(&file.bytes)));
     }
 }
 

@@ -1,7 +1,8 @@
-//! Fresh cases of the second implementation's maker, sheets for all sizes of written numbers, quarters with every hour listed, and gas
-//! hours at every edge, answered by the proved library and by the second implementation. Prints each case whose answers differ, and at
-//! the end how many cases there were and how many differ.
+//! Fresh cases of the second implementation's maker, sheets for all sizes of written numbers, quarters with every hour listed, gas hours
+//! at every edge, and reports with each byte of some lines changed, answered by the proved library and by the second implementation. Prints
+//! each case whose answers differ, and at the end how many cases there were and how many differ.
 
+mod changed_bytes;
 mod float_hours;
 mod gas_hours;
 mod idle_hours;
@@ -105,15 +106,17 @@ fn compare(seed: u64, count: usize) -> usize {
     let mut comparing = Comparing::default();
     let reports = cases.iter().map(|case| (kind(case), comparing.answers(case)));
     let years = joinings.iter().map(|joining| ("year to date", years::joined(joining)));
+    let changed = changed_bytes::files().map(|file| ("changed byte", checked(&file)));
     let recorders = hours.iter().map(|hour| ("recorder's hour", float_hours::recorded(hour)));
-    let mut differ = 0;
-    for (number, (kind, Answers { proved, second })) in reports.chain(years).chain(recorders).enumerate() {
+    let (mut count, mut differ) = (0, 0);
+    for (kind, Answers { proved, second }) in reports.chain(years).chain(recorders).chain(changed) {
         if proved != second {
             differ += 1;
-            println!("case {number}, {kind}: proved {proved}; second {second}");
+            println!("case {count}, {kind}: proved {proved}; second {second}");
         }
+        count += 1;
     }
-    println!("{} cases, {differ} differ", cases.len() + joinings.len() + hours.len());
+    println!("{count} cases, {differ} differ");
     differ
 }
 

@@ -2,10 +2,12 @@
 use Prim.Native.Nat.{ℕ}
 use mathlib.Core.Path.{_≡_, refl}
 use mathlib.Core.List.{List, [], _∷_, map}
-use lib.ListN.{replicate}
+use mathlib.Core.Bool.{Bool, true, false}
+use lib.ListN.{length, replicate}
 use Rattle.columns.specs.Bytes.{all}
 use Rattle.columns.specs.Columns.{columns, put}
 use Rattle.columns.specs.Number.{digitsFrom, digitsOnly, wholeOf, decimalsBehind, fixedOf, fieldOf}
+use Rattle.columns.specs.Picture.{passes, blanks, nines, fieldPicture, fitsTest}
 use Rattle.columns.specs.Written.{digitsOf, digitOrBlank, leading, wholeWritten, fixedWritten, written}
 use Rattle.columns.specs.declared.Field.{Field}
 use Rattle.columns.specs.declared.Field.the-variants.{Blank, Malformed, Number}
@@ -43,6 +45,16 @@ table =
 reads : map (λ r. fieldOf (r .decimals) (r .bytes)) table ≡ map (λ r. r .holds) table
 unfolding fieldRow table all digitsFrom wholeOf decimalsBehind fixedOf fieldOf
 reads = refl
+
+-- the picture of a field fits the numbers among them, and nothing else
+isNumber : Field → Bool
+isNumber Blank = false
+isNumber Malformed = false
+isNumber (Number k) = true
+
+fits-numbers : map (λ r. fitsTest (fieldPicture (length (r .bytes)) (r .decimals)) (r .bytes)) table ≡ map (λ r. isNumber (r .holds)) table
+unfolding isNumber fieldRow table passes blanks nines fieldPicture fitsTest
+fits-numbers = refl
 
 -- numbers written: 12.3, 0.5, 0, 1005 and 0.055; and 7 in two digits
 stands : written 6 1 123 ∷ written 6 1 5 ∷ written 4 0 0 ∷ written 4 0 1005 ∷ written 6 3 55 ∷ digitsOf 2 7 ∷ []

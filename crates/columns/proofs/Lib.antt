@@ -3,3 +3,4 @@ pub mod Blocks
 pub mod Reading
 pub mod Examples
 pub mod Lows
+pub mod Pictures

@@ -1,12 +1,12 @@
 -- Laws of tests over lists of bytes.
-use Prim.Native.Nat.{ℕ, zero, suc, _≤_}
+use Prim.Native.Nat.{ℕ, zero, suc, _≤_, _<_}
 use mathlib.Core.Path.{_≡_, refl}
 use mathlib.Core.Logic.{_↔_}
 use mathlib.Core.List.{List, [], _∷_, _++_}
 use mathlib.Core.Bool.{Bool, true, false, _&&_}
 use native.Mathlib.Omega.{arith}
 use lib.Dec.{eqb, leb}
-use lib.ListN.{take, drop}
+use lib.ListN.{length, take, drop, getD}
 use borrow.Author.Tests.{eq-eqb, eqb-true, le-leb, leb-true}
 use Rattle.columns.specs.Bytes.{isDigit, isPrintable, all, same}
 
@@ -69,6 +69,17 @@ module _ (p : ℕ → Bool) where
   all-drop zero l h = h
   all-drop (suc n) [] h = h
   all-drop (suc n) (x ∷ xs) h = all-drop n xs (all-tail x xs h)
+
+  -- byte by byte
+  pub all-from : (l : List ℕ) → ((i : ℕ) → i < length l → p (getD l i 0) ≡ true) → all p l ≡ true
+  unfolding all
+  all-from [] h = refl
+  all-from (x ∷ xs) h = all-cons x xs (h 0 (omega arith)) (all-from xs (λ i k. h (suc i) (omega arith)))
+
+  pub all-byte : (l : List ℕ) → all p l ≡ true → (i : ℕ) → i < length l → p (getD l i 0) ≡ true
+  all-byte [] h i k = absurd (omega arith)
+  all-byte (x ∷ xs) h zero k = all-head x xs h
+  all-byte (x ∷ xs) h (suc i) k = all-byte xs (all-tail x xs h) i (omega arith)
 
 -- a weaker test
 pub all-weaken : (p q : ℕ → Bool) → ((b : ℕ) → p b ≡ true → q b ≡ true) → (l : List ℕ) → all p l ≡ true → all q l ≡ true

@@ -39,6 +39,12 @@ front-columns k a w l rest h m =
     let q : w ≤ length (drop a (take k l)) = rw length-drop (omega arith) in
     rw (drop-append-le a (take k l) rest p, take-append-le w (drop a (take k l)) rest q)
 
+-- columns of a line that goes on
+pub columns-part : (start width n : ℕ) (l : List ℕ) → start - 1 + width ≤ n → n ≤ length l → columns start width (take n l) ≡ columns start width l
+unfolding columns
+columns-part start width n l h m =
+    sym (front-columns n (start - 1) width l (drop n l) h m) ∙ ap (λ (x : List ℕ). take width (drop (start - 1) x)) (take-append-drop n l)
+
 module _ (start : ℕ) (bs l : List ℕ) (fits : start - 1 + length bs ≤ length l) where
   front-length : length (take (start - 1) l) ≡ start - 1
   front-length = length-take-le (start - 1) l (omega arith)

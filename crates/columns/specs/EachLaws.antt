@@ -1,4 +1,4 @@
--- A test of every byte is a statement of every byte: all printable, all blank; and what a test that a name is not blank tells.
+-- A test of every byte is a statement of every byte: all printable, all digits, all blank; and what a test that a name is not blank tells.
 use Prim.Native.Nat.{ℕ, suc, _≤_}
 use mathlib.Core.Path.{_≡_, refl, sym, _∙_}
 use mathlib.Core.Logic.{inl, inr}
@@ -11,9 +11,9 @@ use Rattle.exact.specs.Logic.{All, both}
 use Rattle.exact.specs.Faults.{unless}
 use Rattle.exact.specs.Clauses.{clause}
 use Rattle.exact.specs.ClauseLaws.{Told, told-by}
-use Rattle.columns.specs.Bytes.{all, isBlank, isPrintable}
+use Rattle.columns.specs.Bytes.{all, isBlank, isDigit, isPrintable}
 use Rattle.columns.specs.BytesLaws.{all-cons, all-head, all-tail}
-use Rattle.columns.specs.Format.{Blanks}
+use Rattle.columns.specs.Format.{Digits, Blanks}
 
 module _ (p : ℕ → Bool) (P : ℕ → Type 0) where
   pub each-of : ((b : ℕ) → p b ≡ true → P b) → (bs : List ℕ) → all p bs ≡ true → All P bs
@@ -34,6 +34,10 @@ printable-says =
 
 pub says-printable : (bs : List ℕ) → AllPrintable bs → all isPrintable bs ≡ true
 says-printable = of-each isPrintable (λ (b : ℕ). (32 ≤ b) × (b ≤ 126)) (λ b w. rw (le-leb 32 b (w .0), le-leb b 126 (w .1)))
+
+pub digits-say : (bs : List ℕ) → all isDigit bs ≡ true → Digits bs
+digits-say =
+    each-of isDigit (λ (b : ℕ). (48 ≤ b) × (b ≤ 57)) (λ b e. let c = both (leb 48 b) (leb b 57) e in (leb-true 48 b (c .0), leb-true b 57 (c .1)))
 
 pub blank-says : (bs : List ℕ) → all isBlank bs ≡ true → Blanks bs
 blank-says = each-of isBlank (λ (b : ℕ). b ≡ 32) (λ b. eqb-true b 32)

@@ -20,7 +20,7 @@ use Rattle.columns.specs.declared.Field.the-variants.{Blank, Malformed, 
 
 -- digits behind digits worth `before`
 
-abbrev behindWorth : ℕ → List ℕ → ℕ
+abbrev pub behindWorth : ℕ → List ℕ → ℕ
 behindWorth before bs = before * 10 ^ length bs + decimal bs
 
 one-more : (before b : ℕ) (bs : List ℕ) → behindWorth (before * 10 + (b - 48)) bs ≡ behindWorth before (b ∷ bs)
@@ -40,7 +40,7 @@ digits-read before (b ∷ bs) v e = go (digits-read (before * 10 + (b - 48)) bs 
         (((leb-true 48 b (d .0), leb-true b 57 (d .1)), i .0), i .1 ∙ one-more before b bs)
     go ih false k w = clash (cc)
 
-read-digits : (before : ℕ) (bs : List ℕ) → Digits bs → digitsFrom before bs ≡ Number (behindWorth before bs)
+pub read-digits : (before : ℕ) (bs : List ℕ) → Digits bs → digitsFrom before bs ≡ Number (behindWorth before bs)
 unfolding digitsFrom
 read-digits before [] d = let z : before * 1 + 0 ≡ before = omega arith in rw (pow-zero 10, z)
 read-digits before (b ∷ bs) d =

@@ -14,3 +14,5 @@ pub mod WrittenLaws
 pub mod RewrittenLaws
 pub mod Worth
 pub mod WorthLaws
+pub mod Picture
+pub mod PictureLaws

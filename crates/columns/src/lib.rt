@@ -1,11 +1,13 @@
 // Numbers in fixed columns of a line, counted from 1, as they are read.
 ghost use mathlib.Core.Path.{_≡_};
+ghost use mathlib.Core.Bool.{true};
 ghost use Prim.Native.Nat.{_+_, _*_, _≤_, _<_, _^_};
 ghost use lib.ListN.{length};
 ghost use Rattle.columns.specs.Bytes.{isBlank, isPrintable, all, same};
 ghost use Rattle.columns.specs.Columns.{Inside, columns};
 ghost use Rattle.columns.specs.Number.{digitsFrom, digitsOnly, wholeOf, fixedOf, fieldOf, numberOf, digitsHeld};
 ghost use Rattle.columns.specs.Worth.{lowFrom, fixedWorth, worthOf};
+ghost use Rattle.columns.specs.Picture.{FitsFrom, Fits};
 
 // What a field of columns holds.
 pub enum Field {
@@ -206,4 +208,47 @@ pub fn worth(line: &[u8], start: usize, width: usize, decimals: usize) -> u64
         return low_digits(0, field);
     }
     fixed_worth(field, decimals)
+}
+
+// A block of columns, by their picture. Every column is looked at, whatever was found, so that the compiler can take many at a time.
+fn block_fits(line: &[u8], picture: &[u8], from: usize) -> bool
+    requires { ⌜ (from + 16 ≤ length (now picture)) × (length (now picture) < length (now line)) ⌝ }
+    ensures { λ r. ⌜ (r ≡ true → FitsFrom from (from + 16) (now (picture .entry)) (now (line .entry))) ⌝ }
+{
+    let mut fine = true;
+    let mut i = 0;
+    while i < BLOCK {
+        let at = from + i;
+        let p = picture[at];
+        let b = line[at];
+        let next = line[at + 1];
+        let digit = (48 <= b) & (b <= 57) & ((p == 57) | ((p == 32) & (48 <= next)));
+        let any = (p == 126) & ((32 <= b) & (b <= 126));
+        fine = fine & ((b == p) | digit | any);
+        i += 1;
+    }
+    fine
+}
+
+// Whether a line, of which more is left, begins as its picture says: the block that ends with the picture's last column first, since values
+// stand at the end of lines, then block by block.
+pub fn fits(line: &[u8], picture: &[u8]) -> bool
+    requires { ⌜ length (now picture) < length (now line) ⌝ }
+    ensures { λ r. ⌜ (r ≡ true → Fits (now (picture .entry)) (now (line .entry))) ⌝ }
+{
+    if picture.len() < BLOCK {
+        return false;
+    }
+    let last = picture.len() - BLOCK;
+    if !block_fits(line, picture, last) {
+        return false;
+    }
+    let mut i = 0;
+    while i < last {
+        if !block_fits(line, picture, i) {
+            return false;
+        }
+        i += BLOCK;
+    }
+    true
 }

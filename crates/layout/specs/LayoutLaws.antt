@@ -3,18 +3,19 @@
 use mathlib.Core.Path.{_≡_, refl, sym, ap, _∙_}
 use mathlib.Core.Bool.{Bool, true, _&&_}
 use mathlib.Core.List.{List, [], _∷_}
-use Prim.Native.Nat.{ℕ, zero, suc, _+_, _*_, _-_, _≤_, _<_}
+use Prim.Native.Nat.{ℕ, zero, suc, _+_, _*_, _-_, _≤_, _<_, _^_}
 use native.Mathlib.Omega.{arith}
 use native.Mathlib.Nat.{le-of-suc-le-suc, not-suc-le-zero}
-use lib.Dec.{leb, lit≤}
+use lib.Dec.{eqb, leb, lit≤}
 use lib.ListN.{length, getD}
 use borrow.Author.Tests.{leb-true, le-leb, eqb-true, eq-eqb}
 use Rattle.calendar.specs.Calendar.{mostHours}
+use Rattle.columns.specs.Number.{digitsHeld}
 use Rattle.exact.specs.Logic.{both}
 use Rattle.exact.specs.Sums.{totalOf}
 use Rattle.layout.specs.Layout.{lengthOf, dateColumn, dateWidth, valueCount, mostValues, linesOf, recordOf, countOf, shape, order, rankOf, typeAt}
 use Rattle.layout.specs.Layout.{reportLength, Held}
-use Rattle.layout.specs.Values.{InRange, Within, inRange, wholeSteps, within, flowScfh, thousandsOf, scfhOf}
+use Rattle.layout.specs.Values.{isFree, InRange, Within, inRange, wholeSteps, within, flowScfh, thousandsOf, scfhOf}
 use Rattle.layout.specs.declared.RecordType.{RecordType}
 use Rattle.layout.specs.declared.RecordType.the-variants.{Facility, So2Concentration, NoxConcentration, Co2Concentration, VolumetricFlow}
 use Rattle.layout.specs.declared.RecordType.the-variants.{Operation, QuarterTotals, So2Mass, NoxRate, Co2Mass}
@@ -103,6 +104,16 @@ true-in-range v k b = rw (le-leb _ _ (b .0), le-leb _ _ (b .1))
 pub true-within : (v : Value) (k : ℕ) → Within v k → within v k ≡ true
 unfolding within
 true-within v k w = rw (true-in-range v k (w .least, w .most), eq-eqb _ _ (w .steps))
+
+pub free-within : (v : Value) (k : ℕ) → isFree v ≡ true → k < 10 ^ digitsHeld (v .decimals) (v .width) → Within v k
+free-within v k e h =
+    let room = 10 ^ digitsHeld (v .decimals) (v .width) in
+    let a = both (eqb (v .least) 0 && leb room (suc (v .most))) (eqb (v .step) 1) e in
+    let b = both (eqb (v .least) 0) (leb room (suc (v .most))) (a .0) in
+    let least : v .least ≡ 0 = eqb-true _ _ (b .0) in
+    let most : room ≤ suc (v .most) = leb-true _ _ (b .1) in
+    let step : v .step ≡ 1 = eqb-true _ _ (a .1) in
+    record { least = omega arith; most = omega arith; steps = rw step (omega arith) }
 
 -- scfh to thousands and back: 20,000,000 scfh are 20,000 thousands
 

@@ -6,3 +6,5 @@ pub mod Lead
 pub mod PlaceLaws
 pub mod TypeLaws
 pub mod RunLaws
+pub mod Pictures
+pub mod PictureLaws

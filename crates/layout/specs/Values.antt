@@ -1,8 +1,9 @@
 -- The values of the records: where each stands on its line, its decimals, its range and its step. Columns count from 1.
-use Prim.Native.Nat.{ℕ, _*_, _-_, _/_, _%_, _≤_, _^_}
+use Prim.Native.Nat.{ℕ, suc, _*_, _-_, _/_, _%_, _≤_, _^_}
 use mathlib.Core.Path.{_≡_}
 use mathlib.Core.Bool.{Bool, _&&_}
 use lib.Dec.{eqb, leb}
+use Rattle.columns.specs.Number.{digitsHeld}
 use Rattle.layout.specs.declared.values.Value.{Value}
 
 -- a number of a range that is a multiple of a step, and any number of a range
@@ -24,6 +25,10 @@ quarterDigit = rangedValue 14 1 0 1 4
 -- a number with decimals that may be anything its columns hold: all of them but the point's
 abbrev pub anyDecimal : (start width decimals : ℕ) → Value
 anyDecimal start width decimals = rangedValue start width decimals 0 (10 ^ (width - 1) - 1)
+
+-- a value of which no test is left once its columns hold a number
+abbrev pub isFree : Value → Bool
+isFree v = eqb (v .least) 0 && leb (10 ^ digitsHeld (v .decimals) (v .width)) (suc (v .most)) && eqb (v .step) 1
 
 abbrev pub noValue : Value
 noValue = rangedValue 0 0 0 0 0

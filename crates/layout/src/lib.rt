@@ -8,6 +8,7 @@ ghost use lib.ListN.{length};
 ghost use Rattle.calendar.specs.Calendar.{mostHours};
 ghost use Rattle.layout.specs.Lead.{leadBy, leadOf};
 ghost use Rattle.layout.specs.Layout.{codeOf, typeDigits, lengthOf, dateColumn, rowOf, countOf, order, typeAt};
+ghost use Rattle.layout.specs.Pictures.{wholePicture};
 ghost use Rattle.layout.specs.Layout.{frontOf, lineOf, offsetOf, reportLength, Held, valueCount, valueAt};
 
 // Every line has its type and its stack name.
@@ -21,6 +22,9 @@ pub const STACK_WIDTH: usize = 6;
 
 // Date and hour, YYMMDDHH.
 pub const DATE_WIDTH: usize = 8;
+
+// No line has more columns.
+pub const PICTURE_WIDTH: usize = 64;
 
 // No record has more values.
 pub const MOST_VALUES: usize = 5;
@@ -417,4 +421,29 @@ pub fn value_count(t: RecordType) -> usize
     ensures { λ r. ⌜ r ≡ valueCount t ⌝ }
 {
     row_of(t).values
+}
+
+// The picture of a type's lines, longer than they are: `9` is a digit, a blank may be one, `~` is any printable byte.
+pub fn picture_of(t: RecordType) -> [u8; PICTURE_WIDTH]
+    ensures { λ r. ⌜ r ≡ wholePicture t ⌝ }
+{
+    match t {
+        RecordType::Facility =>
+            *b"100~~~~~~~~~~~~~~~~~~~~~~~~~~~~~~~~~~~~~~~~~~~~~~~~~~~~~~~~~~~~~",
+        RecordType::So2Concentration =>
+            *b"200~~~~~~~~~~~~~~~~~~~~~~~~~~~~~~~   9.9~~~~~~~~~~~~~~~~~~~~~~~~",
+        RecordType::NoxConcentration =>
+            *b"201~~~~~~~~~~~~~~~~~~~~~~~~~   9.9~~~~~~~~~~~~~~~~~~~~~~~~~~~~~~",
+        RecordType::Co2Concentration =>
+            *b"202~~~~~~~~~~~~~~~~~~~~~~~~~   9.9~~~~~~~~~~~~~~~~~~~~~~~~~~~~~~",
+        RecordType::VolumetricFlow =>
+            *b"220~~~~~~~~~~~~~~~~~~~~~~~~~~~~~~~~~~~         9~~~~~~~~~~~~~~~~",
+        RecordType::Operation =>
+            *b"300~~~~~~~~~~~~~~9.99~~~~~~~~~~~~~~    9.9~~~~~~~~~~~~~~~~~~~~~~",
+        RecordType::QuarterTotals =>
+            *b"301~~~~~~        9.9        9.9        9.9 9.999        9.9~~~~~",
+        RecordType::So2Mass => *b"310~~~~~~~~~~~~~~~~~~~~~    9.9~~~~~~~~~~~~~~~~~~~~~~~~~~~~~~~~~",
+        RecordType::NoxRate => *b"320~~~~~~~~~~~~~~~~~~~~~~       9.9 9.999~~~~~~~~~~~~~~~~~~~~~~~",
+        RecordType::Co2Mass => *b"330~~~~~~~~~~~~~~    9.9~~~~~~~~~~~~~~~~~~~~~~~~~~~~~~~~~~~~~~~~",
+    }
 }

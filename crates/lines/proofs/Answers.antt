@@ -2,17 +2,19 @@
 use Prim.Native.Nat.{ℕ, zero, suc}
 use mathlib.Core.Path.{_≡_, refl, sym, ap, _∙_}
 use mathlib.Core.List.{List}
-use mathlib.Core.Bool.{Bool, not}
+use mathlib.Core.Bool.{Bool, true, not}
 use Rattle.columns.specs.Bytes.{isBlank, all}
 use Rattle.calendar.specs.declared.QuarterHour.{QuarterHour}
 use lib.ListN.{length, take}
 use Rattle.layout.specs.Layout.{lengthOf}
 use Rattle.layout.specs.Values.{yearDigits, quarterDigit, within}
 use Rattle.layout.specs.declared.RecordType.{RecordType}
-use Rattle.layout.specs.declared.RecordType.the-variants.{Facility, So2Concentration}
-use Rattle.exact.specs.Faults.{_orElse_, unless}
+use Rattle.layout.specs.declared.RecordType.the-variants.{Facility, So2Concentration, Operation}
+use Rattle.exact.specs.Faults.{_orElse_, unless, or-none}
 use Rattle.lines.specs.LineFaults.{shapeFault, stackOf, commonFault, digitsIn, periodOn, facilityFault, facilityLine}
-use Rattle.lines.specs.LineFaults.{risingFault, hourOn, hourIn, datedFault, hourSaid, datedLine, hourFault, hourLine, saidOf}
+use Rattle.lines.specs.LineFaults.{risingFault, hourOn, hourIn, datedFault, hourSaid, datedLine, hourFault, hourLine}
+use Rattle.lines.specs.LineFaults.{operates, timedFault, operationFault, saidOf, operationLine}
+use Rattle.lines.specs.Beginning.{stampedLine, operatingAt}
 use Rattle.lines.specs.FaultLaws.{said-hour, said-fault, dated-shape}
 use Rattle.lines.specs.Lines.{firstLine}
 use Rattle.lines.proofs.Shapes.{line-known, line-length}
@@ -22,7 +24,7 @@ use Rattle.lines.specs.declared.FacilityLine.{FacilityLine}
 use Rattle.lines.specs.declared.FacilityLine.the-variants.{Of, Faulty as FaultyFacility}
 use Rattle.lines.specs.declared.HourLine.the-variants.{At as OfHour, Faulty as FaultyHour}
 use Rattle.lines.specs.declared.operation.OperationLine.{OperationLine}
-use Rattle.lines.specs.declared.operation.OperationLine.the-variants.{Faulty as FaultyOperation}
+use Rattle.lines.specs.declared.operation.OperationLine.the-variants.{Operating, Faulty as FaultyOperation}
 
 module _ (line : List ℕ) where
   says : ℕ → FacilityLine
@@ -67,6 +69,11 @@ module _ (facility : List ℕ) (period : Period) (t : RecordType) (from : ℕ) (
   unfolding datedFault
   dated-test hour s h = rw (s, h)
 
+  -- it alone is left to try
+  pub stamped-dated : commonFault facility t line ≡ 0 → stampedLine period t from line ≡ datedLine facility period t from line
+  unfolding stampedLine datedLine datedFault
+  stamped-dated s = rw s
+
   -- what it says
   pub dated-at : (hour : ℕ) → datedLine facility period t from line ≡ OfHour hour → (datedFault facility period t from line ≡ 0) × (hourIn period t line ≡ hour)
   unfolding datedLine
@@ -106,3 +113,12 @@ pub operation-faulty : (f : ℕ) (hour : OperationLine) → (f ≡ 0 → ⊥) �
 unfolding saidOf
 operation-faulty zero hour n = absurd (n refl)
 operation-faulty (suc c) hour n = refl
+
+-- an operating hour's, of which its hour alone is left to try
+pub stamped-operation : (facility : List ℕ) (period : Period) (from : ℕ) (date line : List ℕ) → commonFault facility Operation line ≡ 0 →
+    operates line ≡ true → timedFault date line ≡ 0 →
+    operatingAt period from line ≡ operationLine facility period from date line
+unfolding operatingAt operationLine operationFault datedFault
+stamped-operation facility period from date line s o v =
+    let alone = or-none (risingFault from (hourOn period Operation line)) (timedFault date line) v in
+    rw (s, o) (ap (λ (f : ℕ). saidOf f (Operating (hourIn period Operation line))) (sym alone))

@@ -3,3 +3,5 @@ pub mod Chains
 pub mod Shapes
 pub mod Values
 pub mod Answers
+pub mod Rows
+pub mod Pictures

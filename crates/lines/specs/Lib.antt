@@ -11,3 +11,5 @@ pub mod RightLaws
 pub mod WidthExamples
 pub mod Clauses
 pub mod ClauseLaws
+pub mod Pictured
+pub mod PictureExamples

@@ -33,16 +33,16 @@ wide t says line = record { type = t; line = line; says = says }
 
 -- STACK1, 05070100, and columns that are not read
 
-abbrev stack : List ℕ
+abbrev pub stack : List ℕ
 stack = 83 ∷ 84 ∷ 65 ∷ 67 ∷ 75 ∷ 49 ∷ []
 
-abbrev date : List ℕ
+abbrev pub date : List ℕ
 date = 48 ∷ 53 ∷ 48 ∷ 55 ∷ 48 ∷ 49 ∷ 48 ∷ 48 ∷ []
 
-abbrev unread : ℕ → List ℕ
+abbrev pub unread : ℕ → List ℕ
 unread n = replicate n 120
 
-abbrev wideLines : List Wide
+abbrev pub wideLines : List Wide
 wideLines =
     -- 200STACK1xxxxxx05070100xxxxxxxxxxx1234.5
     wide So2Concentration (12_345 ∷ [])

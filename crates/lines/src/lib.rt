@@ -2,10 +2,12 @@
 mod faults;
 pub mod gas;
 pub mod operation;
+mod picture;
 pub mod shape;
 
 use calendar::QuarterHour;
 use layout::RecordType;
+use layout::Row;
 use layout::values;
 ghost use mathlib.Core.Path.{_≡_};
 ghost use Prim.Native.Nat.{_≤_};
@@ -13,7 +15,9 @@ ghost use lib.ListN.{length};
 ghost use Rattle.calendar.specs.Calendar.{IsQuarter};
 ghost use Rattle.layout.specs.Layout.{lengthOf, dateColumn};
 ghost use Rattle.lines.specs.Lines.{firstLine};
-ghost use Rattle.lines.specs.LineFaults.{facilityLine, datedLine, hourLine, dueOf, dueFault};
+ghost use Rattle.lines.specs.Beginning.{stampedLine};
+ghost use Rattle.lines.specs.LineFaults.{shapeFault, facilityLine, datedLine, hourLine, dueOf, dueFault};
+ghost use Rattle.lines.specs.Pictured.{Known};
 
 // The year and the quarter that a report is of.
 pub struct Period {
@@ -56,15 +60,11 @@ pub fn facility_line(rest: &[u8]) -> FacilityLine
     FacilityLine::Of(Period { year, quarter })
 }
 
-// 2 to 6: a line of a type with a date, whose hour of the quarter must be at least `from`.
-fn dated_line(facility: &[u8], rest: &[u8], t: RecordType, period: Period, from: u64) -> HourLine
-    requires { ⌜ (lengthOf RecordType.Facility ≤ length (now facility)) × IsQuarter (period .quarter) × (1 ≤ dateColumn t) ⌝ }
-    ensures { λ r. ⌜ r ≡ datedLine (now (facility .entry)) period t from (firstLine (now (rest .entry))) ⌝ }
+// 6: the hour of the quarter of a line that has no fault so far; it must be at least `from`.
+fn stamped_line(rest: &[u8], t: RecordType, period: Period, from: u64) -> HourLine
+    requires { ⌜ (shapeFault t (firstLine (now rest)) ≡ 0) × IsQuarter (period .quarter) × (1 ≤ dateColumn t) ⌝ }
+    ensures { λ r. ⌜ r ≡ stampedLine period t from (firstLine (now (rest .entry))) ⌝ }
 {
-    let common = faults::common_fault(facility, rest, t);
-    if common != 0 {
-        return HourLine::Faulty(common);
-    }
     let hour = stamp::read_stamp(
         &rest[..layout::line_length(t)],
         layout::date_column(t),
@@ -80,6 +80,18 @@ fn dated_line(facility: &[u8], rest: &[u8], t: RecordType, period: Period, from:
         }
         QuarterHour::Outside => HourLine::Faulty(6),
     }
+}
+
+// 2 to 6: a line of a type with a date, whose hour of the quarter must be at least `from`.
+fn dated_line(facility: &[u8], rest: &[u8], t: RecordType, period: Period, from: u64) -> HourLine
+    requires { ⌜ (lengthOf RecordType.Facility ≤ length (now facility)) × IsQuarter (period .quarter) × (1 ≤ dateColumn t) ⌝ }
+    ensures { λ r. ⌜ r ≡ datedLine (now (facility .entry)) period t from (firstLine (now (rest .entry))) ⌝ }
+{
+    let common = faults::common_fault(facility, rest, t);
+    if common != 0 {
+        return HourLine::Faulty(common);
+    }
+    stamped_line(rest, t, period, from)
 }
 
 // A 200 line.
@@ -100,8 +112,27 @@ pub fn hour_line(facility: &[u8], rest: &[u8], period: Period, from: u64) -> Hou
     }
 }
 
-// The fault of a line that is due with its type; `hour` is the 200 line of its rank. 0 is none.
-pub fn due_fault(facility: &[u8], hour: &[u8], rest: &[u8], t: RecordType) -> u64
+// The fault of a line that is due with its type, whose row and picture these are; `hour` is the 200 line of its rank. 0 is none.
+pub fn due_fault(
+    facility: &[u8],
+    hour: &[u8],
+    rest: &[u8],
+    t: RecordType,
+    row: Row,
+    picture: &[u8],
+) -> u64
+    requires { ⌜ (lengthOf RecordType.Facility ≤ length (now facility)) × (1 ≤ dateColumn t → length (now hour) ≡ lengthOf RecordType.So2Concentration) ⌝ }
+    requires { ⌜ Known t row (now picture) ⌝ }
+    ensures { λ r. ⌜ r ≡ dueFault (now (facility .entry)) (dueOf t (now (hour .entry))) (firstLine (now (rest .entry))) ⌝ }
+{
+    if picture::is_right(facility, hour, rest, t, row, picture) {
+        return 0;
+    }
+    first_fault(facility, hour, rest, t)
+}
+
+// The same, test by test.
+fn first_fault(facility: &[u8], hour: &[u8], rest: &[u8], t: RecordType) -> u64
     requires { ⌜ (lengthOf RecordType.Facility ≤ length (now facility)) × (1 ≤ dateColumn t → length (now hour) ≡ lengthOf RecordType.So2Concentration) ⌝ }
     ensures { λ r. ⌜ r ≡ dueFault (now (facility .entry)) (dueOf t (now (hour .entry))) (firstLine (now (rest .entry))) ⌝ }
 {

@@ -2,6 +2,7 @@
 use crate::HourLine;
 use crate::Period;
 use crate::faults;
+use crate::picture;
 use columns::Field;
 use layout::RecordType;
 use layout::values;
@@ -10,8 +11,10 @@ ghost use Prim.Native.Nat.{_≤_};
 ghost use lib.ListN.{length};
 ghost use Rattle.calendar.specs.Calendar.{IsQuarter};
 ghost use Rattle.layout.specs.Layout.{lengthOf};
+ghost use Rattle.layout.specs.Pictures.{wholePicture};
 ghost use Rattle.lines.specs.Lines.{firstLine};
-ghost use Rattle.lines.specs.LineFaults.{idleFault, operatingFault, timedFault, saidOf, operationOf, operationLine};
+ghost use Rattle.lines.specs.Beginning.{operatingAt};
+ghost use Rattle.lines.specs.LineFaults.{shapeFault, idleFault, operatingFault, timedFault, saidOf, operationOf, operationLine};
 
 // The hour of the quarter that a 300 line is for, or the number of its fault.
 pub enum OperationLine {
@@ -72,8 +75,43 @@ fn timed_line(line: &[u8], date: &[u8], hour: u64) -> OperationLine
     said(operating_fault(line, date), OperationLine::Operating(hour))
 }
 
-// A 300 line, whose hour of the quarter must be at least `from`; `date` is that which it must have where it operates.
+// A 300 line of an operating hour, of which its hour alone is left to try.
+fn operating_line(rest: &[u8], period: Period, from: u64) -> OperationLine
+    requires { ⌜ (shapeFault RecordType.Operation (firstLine (now rest)) ≡ 0) × IsQuarter (period .quarter) ⌝ }
+    ensures { λ r. ⌜ r ≡ operatingAt period from (firstLine (now (rest .entry))) ⌝ }
+{
+    let stamped = crate::stamped_line(rest, RecordType::Operation, period, from);
+    match stamped {
+        HourLine::At(hour) => OperationLine::Operating(hour),
+        HourLine::Faulty(number) => OperationLine::Faulty(number),
+    }
+}
+
+// A 300 line, whose hour of the quarter must be at least `from`; `date` is that which it must have where it operates; `picture` is that of its type,
+// and looked at if asked to.
 pub fn operation_line(
+    facility: &[u8],
+    rest: &[u8],
+    period: Period,
+    from: u64,
+    date: &[u8],
+    by_picture: bool,
+    picture: &[u8],
+) -> OperationLine
+    requires { ⌜ (lengthOf RecordType.Facility ≤ length (now facility)) × IsQuarter (period .quarter) ⌝ }
+    requires { ⌜ now picture ≡ wholePicture RecordType.Operation ⌝ }
+    ensures { λ r. ⌜ r ≡ operationLine (now (facility .entry)) period from (now (date .entry)) (firstLine (now (rest .entry))) ⌝ }
+{
+    if by_picture {
+        if picture::is_operating(facility, rest, date, picture) {
+            return operating_line(rest, period, from);
+        }
+    }
+    operation_tried(facility, rest, period, from, date)
+}
+
+// The same, test by test.
+fn operation_tried(
     facility: &[u8],
     rest: &[u8],
     period: Period,

@@ -99,16 +99,25 @@ fn walk_runs(file: &[u8], n: usize, first: usize, end: usize, start: Cursor) -> 
             },
             t,
         );
+        let row = layout::row_of(t);
+        let picture = layout::picture_of(t);
         let mut k = 0;
         while k < count {
             if file.len() <= at {
                 return halted(10, line);
             }
-            let fault = lines::due_fault(facility, hour_due(file, t, n, k), &file[at..], t);
+            let fault = lines::due_fault(
+                facility,
+                hour_due(file, t, n, k),
+                &file[at..],
+                t,
+                row,
+                &picture,
+            );
             if fault != 0 {
                 return halted(fault, line);
             }
-            at += layout::line_length(t) + 1;
+            at += row.length + 1;
             line += 1;
             k += 1;
         }
@@ -116,6 +125,9 @@ fn walk_runs(file: &[u8], n: usize, first: usize, end: usize, start: Cursor) -> 
     }
     on(line, at)
 }
+
+// The 300 lines of so many operating hours are tried test by test before their picture is looked at: in a short file it costs more than it saves.
+const FEW: usize = 16;
 
 // Behind the last 300 line, with k of n operating hours read: the number is the refusal's where one is missing.
 fn end_operations(n: usize, k: usize, number: u64, line: usize, at: usize) -> Passage
@@ -133,6 +145,7 @@ fn walk_operations(file: &[u8], period: Period, n: usize, start: Cursor) -> Pass
     ensures { λ r. ⌜ PassesOperations (now (file .entry)) period n start r ⌝ }
 {
     let facility = &file[..layout::FACILITY_LENGTH];
+    let picture = layout::picture_of(RecordType::Operation);
     let mut at = start.at;
     let mut line = start.line;
     let mut from = 0;
@@ -148,6 +161,8 @@ fn walk_operations(file: &[u8], period: Period, n: usize, start: Cursor) -> Pass
             period,
             from,
             date_left(file, n, rank),
+            FEW <= rank,
+            &picture,
         );
         match said {
             OperationLine::Faulty(number) => {

@@ -1,152 +1,20 @@
--- A line that is due: what every line is tried for, its date, GAS and its values, in this order.
-use mathlib.Core.Path.{_≡_, sym, ap, ap₂, _∙_}
-use mathlib.Core.List.{List}
-use mathlib.Core.Bool.{Bool}
-use Prim.Native.Nat.{ℕ}
-use native.Mathlib.Omega.{arith}
-use lib.ListN.{length, take}
+-- A line that is at once seen to be right has no fault; of another, the first.
+use mathlib.Core.Path.{sym}
 use borrow.Author.Needs.{needs}
-use Rattle.layout.specs.Layout.{recordOf, lengthOf, dateColumn}
-use Rattle.layout.specs.LayoutLaws.{date-fits}
-use Rattle.layout.specs.TypeLaws.{gas-type}
-use Rattle.layout.specs.declared.Row.{Row}
-use Rattle.layout.specs.declared.RecordType.{RecordType}
-use Rattle.layout.specs.declared.RecordType.the-variants.{So2Concentration}
-use Rattle.lines.specs.Lines.{firstLine}
-use Rattle.lines.specs.LineFaults.{shapeFault, commonFault, dateOn, dateFault, gasFault, dueFault}
-use Rattle.lines.specs.FaultLaws.{common-shape}
-use Rattle.lines.proofs.Chains.{first-of, later-of}
-use Rattle.lines.proofs.Shapes.{line-known, line-length}
 use Rattle.lines.proofs.due_fault.Statement.{statement}
 use Rattle.lines.proofs.due_fault.Tie as tie
 
--- the places of the code, each from the next one below it
-abbrev start : tie.Else1 → tie.Start
-start c = c .before .before .before .before .before
-
-abbrev shaped : tie.After-row-of → tie.Else1
-shaped c = c .before
-
-abbrev rowed : tie.After-ranked-date-fault → tie.After-row-of
-rowed c = c .before .before
-
-abbrev dating : tie.After-gas-fault → tie.After-ranked-date-fault
-dating c = c .before .before
-
--- the line, once it has no fault that every line is tried for
-module _ (c : tie.After-row-of) where
-  abbrev t : RecordType
-  t = start (shaped c) .args .t
-
-  abbrev rest : List ℕ
-  rest = start (shaped c) .args .rest .now
-
-  -- the date and hour of the 200 line
-  abbrev date : List ℕ
-  date = dateOn So2Concentration (start (shaped c) .args .hour .now)
-
-  abbrev line : List ℕ
-  line = take (c .row-of .result .length) rest
-
-  common : commonFault (start (shaped c) .args .facility .now) t (firstLine rest) ≡ 0
-  common = sym (shaped c .before .common-fault .ensures) ∙ shaped c .if1 .left
-
-  fine : shapeFault t (firstLine rest) ≡ 0
-  fine = common-shape _ t (firstLine rest) common
-
-  sized : c .row-of .result .length ≡ lengthOf t
-  sized = ap (λ (r : Row). r .length) (c .row-of .ensures)
-
-  dated : c .row-of .result .date ≡ dateColumn t
-  dated = ap (λ (r : Row). r .date) (c .row-of .ensures)
-
-  gassed : c .row-of .result .gas ≡ recordOf t .gas
-  gassed = ap (λ (r : Row). r .gas) (c .row-of .ensures)
-
-  known : firstLine rest ≡ line
-  known = line-known t rest fine (c .row-of .result .length) sized
-
-  long : length line ≡ lengthOf t
-  long = line-length t rest fine (c .row-of .result .length) sized
-
--- the fault of its date
-told : (c : tie.After-ranked-date-fault) →
-    let k = rowed c in c .ranked-date-fault .result ≡ dateFault (dateColumn (t k)) (date k) (firstLine (rest k))
-told c =
-    let k = rowed c in
-    c .ranked-date-fault .ensures ∙ ap₂ (λ (column : ℕ) (l : List ℕ). dateFault column (date k) l) (dated k) (sym (known k))
-
--- its date has none
-undated : (c : tie.After-gas-fault) → let k = rowed (dating c) in dateFault (dateColumn (t k)) (date k) (firstLine (rest k)) ≡ 0
-undated c = sym (told (dating c)) ∙ c .before .if2 .left
-
--- whether it goes together with its 200 line
-together : (c : tie.After-gas-fault) →
-    let k = rowed (dating c) in c .gas-fault .result ≡ gasFault (recordOf (t k) .gas) (start (shaped k) .args .hour .now) (firstLine (rest k))
-together c =
-    let k = rowed (dating c) in
-    c .gas-fault .ensures ∙ ap₂ (λ (gas : Bool) (l : List ℕ). gasFault gas (start (shaped k) .args .hour .now) l) (gassed k) (sym (known k))
-
-common-fault-requires : tie.Need-common-fault-requires
-common-fault-requires c κs = search needs
+is-right-requires : tie.Need-is-right-requires
+is-right-requires c κs = search needs
 
 returns : tie.Need-returns
-unfolding dueFault
-returns c = first-of _ _ _ (c .before .common-fault .ensures) (λ e. omega arith)
+returns c = sym (c .before .is-right .ensures (c .if1 .taken))
 
-row-of-requires : tie.Need-row-of-requires
-row-of-requires c κs = search needs
-
-slice-aggregate-line : tie.Need-slice-aggregate-line
-slice-aggregate-line c = sized (c .before) ∙ sym (long (c .before))
-
-ranked-date-fault-requires : tie.Need-ranked-date-fault-requires
-ranked-date-fault-requires c κs =
-    let k = c .before in
-    (omega (arith, long k, dated k, date-fits (t k)), (λ h. start (shaped k) .pre .1 (omega (arith, h, dated k))))
+first-fault-requires : tie.Need-first-fault-requires
+first-fault-requires c κs = search needs
 
 returns-2 : tie.Need-returns-2
-unfolding dueFault
-returns-2 c =
-    let d = c .before in
-    later-of _ _ _ (common (rowed d)) (first-of _ _ _ (told d) (λ e. omega arith))
-
-gas-fault-requires : tie.Need-gas-fault-requires
-gas-fault-requires c κs =
-    let k = rowed (c .before) in
-    λ g.
-    let m = gas-type (t k) (sym (gassed k) ∙ g) in
-    (omega (arith, long k, ap lengthOf m), start (shaped k) .pre .1 (omega (arith, ap dateColumn m)))
-
-returns-3 : tie.Need-returns-3
-unfolding dueFault
-returns-3 c =
-    let g = c .before in
-    let d = dating g in
-    later-of _ _ _ (common (rowed d)) (later-of _ _ _ (undated g) (first-of _ _ _ (together g) (λ e. omega arith)))
-
-values-fault-requires : tie.Need-values-fault-requires
-values-fault-requires c κs = long (rowed (dating (c .before)))
-
-returns-4 : tie.Need-returns-4
-unfolding dueFault
-returns-4 c =
-    let g = c .before .before in
-    let k = rowed (dating g) in
-    later-of _ _ _ (common k) (later-of _ _ _ (undated g)
-    (later-of _ _ _ (sym (together g) ∙ c .before .if3 .left) (rw (← known k) at (c .values-fault .ensures))))
+returns-2 c = c .first-fault .ensures
 
 pub due-fault-spec : {M : Type 1} → statement M
-due-fault-spec =
-    tie.close
-    (tie.spec
-    common-fault-requires
-    returns
-    row-of-requires
-    slice-aggregate-line
-    ranked-date-fault-requires
-    returns-2
-    gas-fault-requires
-    returns-3
-    values-fault-requires
-    returns-4)
+due-fault-spec = tie.close (tie.spec is-right-requires returns first-fault-requires returns-2)

@@ -24,17 +24,17 @@ use Rattle.reading.proofs.walk.walk_operations.Statement.{statement}
 use Rattle.reading.proofs.walk.walk_operations.Tie as tie
 
 abbrev Inv-loop : tie.InvT-loop
-Inv-loop file period n facility at₀ line₀ from₀ rank₀ at line from rank = Listing file period n (record { line = line₀; at = at₀ }) at line from rank
+Inv-loop file period n facility picture at₀ line₀ from₀ rank₀ at line from rank = Listing file period n (record { line = line₀; at = at₀ }) at line from rank
 
 abbrev μ-loop : tie.MeasureT-loop
-μ-loop file period n facility at₀ line₀ from₀ rank₀ at line from rank = length file - at
+μ-loop file period n facility picture at₀ line₀ from₀ rank₀ at line from rank = length file - at
 
 -- the places of the code, each from the next one below it
 abbrev entry : tie.After-facility Inv-loop μ-loop → tie.Start Inv-loop μ-loop
 entry c = c .before .before
 
 abbrev opened : tie.At-loop Inv-loop μ-loop → tie.Start Inv-loop μ-loop
-opened c = entry (c .before)
+opened c = entry (c .before .before)
 
 abbrev turn : tie.In-loop Inv-loop μ-loop → tie.At-loop Inv-loop μ-loop
 turn c = c .before
@@ -46,7 +46,7 @@ abbrev typed : tie.Else1 Inv-loop μ-loop → tie.After-type-is Inv-loop μ-loop
 typed c = c .before
 
 abbrev dated : tie.After-operation-line Inv-loop μ-loop → tie.After-date-left Inv-loop μ-loop
-dated c = c .before
+dated c = c .before .before
 
 abbrev listed : tie.After-date-left Inv-loop μ-loop → tie.Else1 Inv-loop μ-loop
 listed c = c .before
@@ -121,8 +121,11 @@ slice-aggregate-facility c =
     let x = entry c in
     sym (length-take-le (lengthOf Facility) (x .args .file .now) (omega (arith, x .pre .0 .room)))
 
+picture-of-requires : tie.Need-picture-of-requires Inv-loop μ-loop
+picture-of-requires c κs = search needs
+
 loop-holds : tie.Need-loop-holds Inv-loop μ-loop
-loop-holds c = let x = entry c in listing-start (x .args .file .now) (x .args .period) (x .args .n) (x .args .start) (x .pre .1)
+loop-holds c = let x = entry (c .before) in listing-start (x .args .file .now) (x .args .period) (x .args .n) (x .args .start) (x .pre .1)
 
 sub-rest : tie.Need-sub-rest Inv-loop μ-loop
 sub-rest c = omega arith
@@ -149,8 +152,11 @@ returns c =
 date-left-requires : tie.Need-date-left-requires Inv-loop μ-loop
 date-left-requires c κs = opened (stood (typed c)) .pre .0
 
+slice-aggregate-operation-line : tie.Need-slice-aggregate-operation-line Inv-loop μ-loop
+slice-aggregate-operation-line c = search needs
+
 operation-line-requires : tie.Need-operation-line-requires Inv-loop μ-loop
-operation-line-requires c κs = let l = stood (typed (listed c)) in (omega (arith, long l), opened l .pre .2)
+operation-line-requires c κs = let l = stood (typed (listed (c .before))) in ((omega (arith, long l), opened l .pre .2), l .before .picture-of .ensures)
 
 enum-known-said : tie.Need-enum-known-said Inv-loop μ-loop
 enum-known-said c = search needs
@@ -218,6 +224,7 @@ walk-operations-spec =
     Inv-loop
     μ-loop
     slice-aggregate-facility
+    picture-of-requires
     loop-holds
     sub-rest
     part-rest-start
@@ -226,6 +233,7 @@ walk-operations-spec =
     end-operations-requires
     returns
     date-left-requires
+    slice-aggregate-operation-line
     operation-line-requires
     enum-known-said
     halted-requires

@@ -1,12 +1,14 @@
 -- The lines of some types: with each line, what is left to do against what is due is what the whole was.
 use Prim.Native.Nat.{ℕ, _+_, _-_, _≤_, _<_}
-use mathlib.Core.Path.{_≡_, sym}
+use mathlib.Core.Path.{_≡_, sym, ap}
 use mathlib.Core.List.{List, _++_}
 use native.Mathlib.Omega.{arith}
 use borrow.Author.Needs.{needs}
 use lib.ListN.{length, take, drop}
 use lib.Seq.{length-take-le}
 use Rattle.layout.specs.Layout.{lengthOf, order, countOf, shape}
+use Rattle.layout.specs.LayoutLaws.{length-most}
+use Rattle.layout.specs.declared.Row.{Row}
 use Rattle.layout.specs.declared.RecordType.{RecordType}
 use Rattle.layout.specs.declared.RecordType.the-variants.{Facility}
 use Rattle.lines.specs.Lines.{firstLine}
@@ -32,11 +34,11 @@ abbrev dueAt : List ℕ → ℕ → ℕ → ℕ → RecordType → ℕ → List 
 dueAt file n end place t k = drop k (runOf t (hourLinesIn file n)) ++ dueFrom file n end (place + 1)
 
 abbrev Inv-loop2 : tie.InvT-loop2
-Inv-loop2 file n first end facility at₀ line₀ place t count k₀ at line k =
+Inv-loop2 file n first end facility at₀ line₀ place t count row picture k₀ at line k =
     (k ≤ count) × Walked file n (cursor at₀ line₀) (dueAt file n end place t 0) at line (dueAt file n end place t k)
 
 abbrev μ-loop2 : tie.MeasureT-loop2
-μ-loop2 file n first end facility at₀ line₀ place t count k₀ at line k = count - k
+μ-loop2 file n first end facility at₀ line₀ place t count row picture k₀ at line k = count - k
 
 abbrev Inv-loop : tie.InvT-loop
 Inv-loop file n first end facility at₀ line₀ place₀ at line place =
@@ -82,14 +84,24 @@ turn c = c .before .before
 abbrev typed : tie.After-count-of Inv-loop2 μ-loop2 Inv-loop μ-loop → tie.After-type-at Inv-loop2 μ-loop2 Inv-loop μ-loop
 typed c = c .before
 
+abbrev counting : Inner → tie.After-count-of Inv-loop2 μ-loop2 Inv-loop μ-loop
+counting c = c .before .before .before
+
+-- the row of the type
+abbrev row : Inner → Row
+row c = c .before .before .row-of .result
+
+sized : (c : Inner) → row c .length ≡ lengthOf (typed (counting c) .type-at .result)
+sized c = ap (λ (r : Row). r .length) (c .before .before .row-of .ensures)
+
 abbrev outer : Inner → Outer
-outer c = turn (typed (c .before))
+outer c = turn (typed (counting c))
 
 abbrev due : DueLine → Inner
 due c = c .before
 
 abbrev dated : Tried → tie.After-hour-due Inv-loop2 μ-loop2 Inv-loop μ-loop
-dated c = c .before .before
+dated c = c .before .before .before
 
 abbrev wanted : tie.After-hour-due Inv-loop2 μ-loop2 Inv-loop μ-loop → DueLine
 wanted c = c .before .before
@@ -97,10 +109,10 @@ wanted c = c .before .before
 abbrev tried : Tried → DueLine
 tried c = wanted (dated c)
 
-abbrev passed : tie.After-line-length Inv-loop2 μ-loop2 Inv-loop μ-loop → Tried
-passed c = c .before .before
+abbrev passed : tie.Else2 Inv-loop2 μ-loop2 Inv-loop μ-loop → Tried
+passed c = c .before
 
-abbrev here : tie.After-line-length Inv-loop2 μ-loop2 Inv-loop μ-loop → Inner
+abbrev here : tie.Else2 Inv-loop2 μ-loop2 Inv-loop μ-loop → Inner
 here c = due (tried (passed c))
 
 -- where the outer loop stands
@@ -123,13 +135,13 @@ module _ (c : Outer) where
 -- where the inner loop stands
 module _ (c : Inner) where
   abbrev type : RecordType
-  type = typed (c .before) .type-at .result
+  type = typed (counting c) .type-at .result
 
-  counted : c .before .count-of .result ≡ countOf (shape (hours (outer c))) type
-  counted = c .before .count-of .ensures
+  counted : counting c .count-of .result ≡ countOf (shape (hours (outer c))) type
+  counted = counting c .count-of .ensures
 
   abbrev begun : tie.After-type-at Inv-loop2 μ-loop2 Inv-loop μ-loop
-  begun = typed (c .before)
+  begun = typed (counting c)
 
   -- the whole, from the types before and from this one
   whole : Walked (file (outer c)) (hours (outer c)) (start (outer c)) (all (outer c)) (c .loop2 .at) (c .loop2 .line)
@@ -156,16 +168,16 @@ told c =
     fault-of (facilityOf f) (type i) (c .due-fault .ensures) (dated c .hour-due .ensures) (part-end (i .loop2 .at) f)
 
 -- it has no fault, and its length is known
-room : (c : tie.After-line-length Inv-loop2 μ-loop2 Inv-loop μ-loop) → here c .loop2 .at + c .line-length .result ≤ length (file (outer (here c)))
+room : (c : tie.Else2 Inv-loop2 μ-loop2 Inv-loop μ-loop) → here c .loop2 .at + row (here c) .length ≤ length (file (outer (here c)))
 room c =
     let l = here c .loop2 in
     let o = outer (here c) in
     let d = passed c in
     let r =
     walked-room (file o) (hours o) _ _ (l .at) (l .line) (type (here c)) (l .k) _ (l .inv .1) (inside (tried d)) (omega arith)
-    (d .due-fault .result) (told d) (c .before .if2 .left)
+    (d .due-fault .result) (told d) (c .if2 .left)
     in
-    omega (arith, r, c .line-length .ensures .0)
+    omega (arith, r, sized (here c))
 
 slice-aggregate-facility : tie.Need-slice-aggregate-facility Inv-loop2 μ-loop2 Inv-loop μ-loop
 slice-aggregate-facility c = sym (long (opened c))
@@ -184,9 +196,15 @@ type-at-requires c κs = omega (arith, c .loop-test .taken, entry (c .before) .p
 count-of-requires : tie.Need-count-of-requires Inv-loop2 μ-loop2 Inv-loop μ-loop
 count-of-requires c κs = search needs
 
+row-of-requires : tie.Need-row-of-requires Inv-loop2 μ-loop2 Inv-loop μ-loop
+row-of-requires c κs = search needs
+
+picture-of-requires : tie.Need-picture-of-requires Inv-loop2 μ-loop2 Inv-loop μ-loop
+picture-of-requires c κs = search needs
+
 loop2-holds : tie.Need-loop2-holds Inv-loop2 μ-loop2 Inv-loop μ-loop
 loop2-holds c =
-    let o = turn (typed c) in
+    let o = turn (typed (c .before .before)) in
     let v = o .loop .inv .1 in
     let x = opened (o .before) .args in
     (omega arith, walked-start (x .file .now) (x .n) (cursor (o .loop .at) (o .loop .line)) _ (record { room = v .room; most = v .most }))
@@ -214,11 +232,17 @@ part-due-fault-start c = omega arith
 part-due-fault-end : tie.Need-part-due-fault-end Inv-loop2 μ-loop2 Inv-loop μ-loop
 part-due-fault-end c = omega arith
 
+slice-aggregate-due-fault : tie.Need-slice-aggregate-due-fault Inv-loop2 μ-loop2 Inv-loop μ-loop
+slice-aggregate-due-fault c = search needs
+
 due-fault-requires : tie.Need-due-fault-requires Inv-loop2 μ-loop2 Inv-loop μ-loop
 due-fault-requires c κs =
-    let w = wanted (c .before) in
-    let o = outer (due w) in
-    (omega (arith, long (entry o)), (λ d. rw (c .before .hour-due .ensures) (due-long (file o) (hours o) _ (entry o .pre .0) (type (due w)) (inside w) d)))
+    let h = c .before .before in
+    let w = wanted h in
+    let o = outer (due w) in (
+      (omega (arith, long (entry o)), (λ d. rw (h .hour-due .ensures) (due-long (file o) (hours o) _ (entry o .pre .0) (type (due w)) (inside w) d))),
+      record { rowed = due w .before .before .row-of .ensures; pictured = due w .before .picture-of .ensures },
+    )
 
 halted-requires-2 : tie.Need-halted-requires-2 Inv-loop2 μ-loop2 Inv-loop μ-loop
 halted-requires-2 c κs = search needs
@@ -233,19 +257,17 @@ returns-2 c =
     (walked-found (file o) (hours o) (start o) (all o) (l .at) (l .line) (type i) (l .k) _ (whole i) (inside (tried d)) (omega arith)
     (d .due-fault .result) (told d) (c .before .if2 .taken))
 
-line-length-requires : tie.Need-line-length-requires Inv-loop2 μ-loop2 Inv-loop μ-loop
-line-length-requires c κs = search needs
-
 add-at : tie.Need-add-at Inv-loop2 μ-loop2 Inv-loop μ-loop
-add-at c = omega arith
+add-at c = let i = here (c .before) in omega (arith, sized i, length-most (type i))
 
 add-at-2 : tie.Need-add-at-2 Inv-loop2 μ-loop2 Inv-loop μ-loop
 add-at-2 c =
-    let b = room c in
+    let b = room (c .before) in
+    let e = sized (here (c .before)) in
     omega arith
 
 add-line : tie.Need-add-line Inv-loop2 μ-loop2 Inv-loop μ-loop
-add-line c = omega (arith, here c .loop2 .inv .1 .most)
+add-line c = omega (arith, here (c .before) .loop2 .inv .1 .most)
 
 add-k : tie.Need-add-k Inv-loop2 μ-loop2 Inv-loop μ-loop
 add-k c = omega arith
@@ -255,13 +277,13 @@ loop2-less c = omega arith
 
 loop2-again : tie.Need-loop2-again Inv-loop2 μ-loop2 Inv-loop μ-loop
 loop2-again c =
-    let d = passed c in
-    let l = here c .loop2 in
-    let o = outer (here c) in (
+    let d = passed (c .before) in
+    let l = here (c .before) .loop2 in
+    let o = outer (here (c .before)) in (
       omega arith,
-      walked-next (file o) (hours o) _ _ (l .at) (l .line) (type (here c)) (l .k) _ (l .inv .1) (inside (tried d)) (omega arith)
+      walked-next (file o) (hours o) _ _ (l .at) (l .line) (type (here (c .before))) (l .k) _ (l .inv .1) (inside (tried d)) (omega arith)
           (d .due-fault .result) (told d) (c .before .if2 .left)
-          (c .line-length .result) (c .line-length .ensures .0),
+          (row (here (c .before)) .length) (sized (here (c .before))),
     )
 
 add-place : tie.Need-add-place Inv-loop2 μ-loop2 Inv-loop μ-loop
@@ -299,6 +321,8 @@ walk-runs-spec =
     loop-holds
     type-at-requires
     count-of-requires
+    row-of-requires
+    picture-of-requires
     loop2-holds
     halted-requires
     returns
@@ -306,10 +330,10 @@ walk-runs-spec =
     sub-due-fault
     part-due-fault-start
     part-due-fault-end
+    slice-aggregate-due-fault
     due-fault-requires
     halted-requires-2
     returns-2
-    line-length-requires
     add-at
     add-at-2
     add-line
