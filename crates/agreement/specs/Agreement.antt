@@ -18,8 +18,10 @@ use Rattle.totals.specs.TotalLaws.{quarter-hours}
 use Rattle.lines.specs.Lines.{lines}
 use Rattle.reading.specs.Idle.{withoutIdle}
 use Rattle.reading.specs.Recorded.{Line, recordsOf, hourCount, hoursOf}
-use Rattle.checker.specs.Checked.{acceptance, answerNumbers, checked}
-use Rattle.checker.specs.Promise.{SetsBehind, HonestlyRounded}
+use Rattle.judging.specs.Judged.{acceptance}
+use Rattle.judging.specs.Behind.{SetsBehind}
+use Rattle.checker.specs.Checked.{answerNumbers, checked}
+use Rattle.checker.specs.Promise.{HonestlyRounded}
 use Rattle.checker.specs.PromiseLaws.{hours-count, honest-checked}
 use Rattle.checker.specs.declared.Answer.the-variants.{Accepted}
 use Rattle.sheet.specs.Sheet.{recordedReadings, sheetHourCount, shapeOf, sheetHours}

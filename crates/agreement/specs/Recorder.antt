@@ -7,8 +7,10 @@ use Rattle.formulas.specs.Hour.{Monitored, Unrounded, setOf}
 use Rattle.formulas.specs.Formulas.{hourFrom}
 use Rattle.formulas.specs.FormulaLaws.{recorded-behind}
 use Rattle.totals.specs.Totals.{quarterTotals}
-use Rattle.checker.specs.Checked.{acceptance, answerNumbers, checked}
-use Rattle.checker.specs.Promise.{SetsBehind, HonestlyRounded}
+use Rattle.judging.specs.Judged.{acceptance}
+use Rattle.judging.specs.Behind.{SetsBehind}
+use Rattle.checker.specs.Checked.{answerNumbers, checked}
+use Rattle.checker.specs.Promise.{HonestlyRounded}
 use Rattle.writer.specs.Recorded.{ReportHour, recordedHours}
 use Rattle.writer.specs.Written.{report}
 use Rattle.agreement.specs.Reportable.{Reportable}

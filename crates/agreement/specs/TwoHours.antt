@@ -6,6 +6,7 @@ use mathlib.Core.List.{List, [], _∷_}
 use Prim.Native.Nat.{ℕ, _+_, _*_, _^_}
 use lib.ListN.{replicate}
 use Rattle.exact.specs.Logic.{ranked}
+use Rattle.exact.specs.Faults.{firstFailing}
 use Rattle.exact.specs.Fraction.{over}
 use Rattle.exact.specs.Behind.{meets}
 use Rattle.exact.specs.Sums.{totalOf}
@@ -28,7 +29,8 @@ use Rattle.lines.specs.LineFaults.{facilityFault, facilityLine, risingFault, da
 use Rattle.lines.specs.LineFaults.{so2Fault, hasGas, so2Blank, gasFault, operates, idleFault, operatingFault, timedFault, operationFault, saidOf, operationLine}
 use Rattle.reading.specs.Reading.{runOf, runsOf, walkDue, endOperations, walkOperations, walkEnd, walkLast, walkListed, walkLater, walkHours, walk, readOf}
 use Rattle.reading.specs.Recorded.{linesWith, idle, recordsOf, valueOn, hourAt, hoursOf, totalsIn}
-use Rattle.checker.specs.Checked.{answerNumbers, judgedFigures, judgedHours, firstDiffering, comparedTotals, judged, afterReading, checked}
+use Rattle.judging.specs.Judged.{judgedHours, comparedTotals, judgedQuarter}
+use Rattle.checker.specs.Checked.{answerNumbers, judged, afterReading, checked}
 use Rattle.checker.specs.Examples.{Damage, allNamed}
 use Rattle.sheet.specs.Sheet.{sheetHour, sheetHours}
 use Rattle.sheet.specs.SheetTests.{every, headingHolds, kindsRise, kindsHold, hourHolds, hoursRise, sheetHolds, readingsHold}
@@ -104,7 +106,7 @@ unfolding two allNamed put over meets totalOf all same columns digitsFrom wholeO
     shapeFault stackFault commonFault within reportLength fieldFault valuesFault digitsIn facilityFault facilityLine risingFault datedFault hourFault
     hourNumber hourLine dateFault dueFault operates idleFault operatingFault timedFault operationFault saidOf operationLine runOf runsOf walkDue
     endOperations walkOperations walkEnd walkLast walkListed walkLater walkHours walk readOf linesWith idle recordsOf valueOn hourAt ranked hoursOf
-    totalsIn judgedFigures judgedHours firstDiffering comparedTotals judged afterReading checked isEmpty so2Fault hasGas so2Blank gasFault sheetHour
+    totalsIn firstFailing judgedHours judgedQuarter comparedTotals judged afterReading checked isEmpty so2Fault hasGas so2Blank gasFault sheetHour
     sheetHours every headingHolds kindsRise kindsHold hourHolds hoursRise sheetHolds readingsHold figuresHold refusalOf headed valued facilityRecord
     totalsRecord hourRecord writtenRecords lined report answered buffered
 two-answered = (refl, refl, refl, refl)

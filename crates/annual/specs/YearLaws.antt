@@ -17,7 +17,7 @@ use Rattle.formulas.specs.declared.hour.Quantity.the-variants.{Heat, So2, Co2}
 use Rattle.totals.specs.Mass.{massTons}
 use Rattle.totals.specs.declared.Quarter.{Quarter}
 use Rattle.reading.specs.Recorded.{hoursOf}
-use Rattle.checker.specs.Promise.{LieBehind, exactAmount, reported, allowed}
+use Rattle.judging.specs.Behind.{LieBehind, exactAmount, reported, allowed}
 use Rattle.checker.specs.PromiseLaws.{promise}
 use Rattle.annual.specs.Joined.{yearNumbers, joinedOf}
 use Rattle.annual.specs.JoinedLaws.{says-record, same-record, never-record, record-joined}

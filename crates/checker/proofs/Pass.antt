@@ -1,73 +1,47 @@
 -- Laws of the hour pass: what is left to judge from an hour, or from a figure, on.
 use Prim.Native.Nat.{ℕ, zero, suc, _+_, _-_, _≤_, _<_}
 use mathlib.Core.Path.{_≡_, refl, sym, ap, _∙_}
-use mathlib.Core.List.{List, _∷_}
-use mathlib.Core.Bool.{true, false}
+use mathlib.Core.List.{List}
+use mathlib.Core.Bool.{Bool, true, false}
 use native.Mathlib.Omega.{arith}
 use native.Mathlib.Numerals.{add-one}
 use lib.ListN.{drop}
 use Rattle.exact.specs.Logic.{ranked, ranked-next, ranked-end}
-use Rattle.layout.specs.Layout.{lineOf}
+use Rattle.exact.specs.Faults.{_orElse_, unless, firstFailing}
 use Rattle.formulas.specs.Formulas.{passesTest}
+use Rattle.formulas.specs.declared.hour.Hour.{Hour}
 use Rattle.totals.specs.Totals.{Room, noTotals, withHour, runningTotals, totalsOf, quarterOf, quarterTotals}
 use Rattle.totals.specs.TotalLaws.{grown-hours, running-totals, running-next, running-end, quarter-formed}
-use Rattle.calendar.specs.Calendar.{mostHours}
-use Rattle.layout.specs.declared.RecordType.{RecordType}
-use Rattle.layout.specs.declared.RecordType.the-variants.{Operation, QuarterTotals, So2Mass, NoxRate, Co2Mass}
-use Rattle.layout.specs.declared.Shape.{Shape}
-use Rattle.formulas.specs.declared.hour.Hour.{Hour}
-use Rattle.formulas.specs.declared.hour.Quantity.{Quantity}
-use Rattle.formulas.specs.declared.hour.Quantity.the-variants.{Heat, So2, Nox, Co2}
 use Rattle.totals.specs.declared.Totals.{Totals}
 use Rattle.totals.specs.declared.Quarter.{Quarter}
-use Rattle.reading.specs.Recorded.{Line, recordAt, hourCount, hourAt, hoursOf, totalsIn}
+use Rattle.layout.specs.declared.Shape.{Shape}
+use Rattle.judging.specs.Judged.{figureCount, figureAt, Tried, figuresTried, failedAt, failedOr, failureOf, judgedHours, comparedTotals, judgedQuarter}
+use Rattle.judging.specs.JudgedLaws.{drop-figure, figure-some}
+use Rattle.judging.specs.declared.Verdict.{Verdict}
+use Rattle.reading.specs.Recorded.{hourCount, hourAt, hoursOf, totalsIn}
 use Rattle.reading.specs.Places.{Standing, operatingPlace}
 use Rattle.reading.specs.RecordLaws.{hours-standing}
-use Rattle.reading.specs.Places.{Stands}
-use Rattle.reading.specs.RankLaws.{hour-stands, once-stands, Ahead, ahead-next}
-use Rattle.checker.specs.Checked.{refusedAt, quantities, quantityAt, numberFor, typeFor, lineFor, judgedFigures, judgedHours, comparedTotals, judged}
-use Rattle.checker.specs.Judging.{placeFor}
-use Rattle.checker.specs.declared.Answer.{Answer}
-
--- the lines of the figures and of the totals, where the layout has them
-module _ (file : List ℕ) (s : Shape) (d : Standing file s) where
-  line-stands : {t : RecordType} {k p : ℕ} → Stands file s t k p → lineOf s t p ≡ recordAt file t k .number
-  line-stands e = sym (ap (λ (l : Line). l .number) (e .there))
-
-  pub figure-line : (q : Quantity) (k p : ℕ) → k < s .hours → Stands file s Operation k p → lineOf s (typeFor q) (placeFor q k p) ≡ lineFor file q k
-  figure-line Heat k p h e = line-stands e
-  figure-line So2 k p h e = line-stands (hour-stands file s d So2Mass refl k h)
-  figure-line Nox k p h e = line-stands (hour-stands file s d NoxRate refl k h)
-  figure-line Co2 k p h e = line-stands (hour-stands file s d Co2Mass refl k h)
-
-  -- both lie within the quarter's hours
-  pub place-most : (q : Quantity) (k p : ℕ) → k < s .hours → Stands file s Operation k p → placeFor q k p ≤ mostHours
-  place-most Heat k p h e = omega (arith, e .inside, d .held .operations)
-  place-most So2 k p h e = omega (arith, d .held .hours)
-  place-most Nox k p h e = omega (arith, d .held .hours)
-  place-most Co2 k p h e = omega (arith, d .held .hours)
-
-  pub totals-line : lineOf s QuarterTotals 0 ≡ recordAt file QuarterTotals 0 .number
-  totals-line = line-stands (once-stands file s d QuarterTotals refl)
+use Rattle.reading.specs.RankLaws.{Ahead, ahead-next}
+use Rattle.checker.specs.Checked.{verdictOn}
 
 module _ (file : List ℕ) (s : Shape) where
   -- what follows the hours
-  unfoldable pub ending : Answer
-  ending = comparedTotals (recordAt file QuarterTotals 0 .number) (quarterTotals (hoursOf file)) (totalsIn file)
+  unfoldable pub ending : Verdict
+  ending = comparedTotals (quarterTotals (hoursOf file)) (totalsIn file)
 
   -- what is left from hour k on
   abbrev pub hoursLeft : ℕ → List Hour
   hoursLeft k = ranked (hourAt file) k (s .hours - k)
 
-  unfoldable pub left : ℕ → Answer
-  left k = judgedHours file k (hoursLeft k) ending
+  unfoldable pub left : ℕ → Verdict
+  left k = judgedHours (suc k) (hoursLeft k) ending
 
   -- what is left from figure j of hour k on
-  unfoldable pub figuresLeft : ℕ → Hour → ℕ → Answer
-  figuresLeft k h j = judgedFigures (drop j quantities) file k h (left (k + 1))
+  unfoldable pub figuresLeft : ℕ → Hour → ℕ → Verdict
+  figuresLeft k h j = failedOr (failureOf (drop j figuresTried) h) (suc k) (left (k + 1))
 
-  pub left-first : Standing file s → left 0 ≡ judged file
-  unfolding left ending judged hoursOf
+  pub left-first : Standing file s → left 0 ≡ verdictOn file
+  unfolding left ending judgedQuarter hoursOf
   left-first d = let e : s .hours - 0 ≡ hourCount file = omega (arith, hours-standing file s d) in rw e
 
   pub left-hour : (k : ℕ) → k < s .hours → figuresLeft k (hourAt file k) 0 ≡ left k
@@ -78,31 +52,27 @@ module _ (file : List ℕ) (s : Shape) where
   unfolding left judgedHours
   left-end = rw (ranked-end (hourAt file) (s .hours) (s .hours) (omega arith))
 
-  drop-quantity : (j : ℕ) → j < 4 → drop j quantities ≡ quantityAt j ∷ drop (j + 1) quantities
-  drop-quantity zero h = refl
-  drop-quantity (suc zero) h = refl
-  drop-quantity (suc (suc zero)) h = refl
-  drop-quantity (suc (suc (suc zero))) h = refl
-  drop-quantity (suc (suc (suc (suc j)))) h = absurd (omega arith)
-
-  pub number-at : (j : ℕ) → j < 4 → 11 + j ≡ numberFor (quantityAt j)
-  number-at zero h = refl
-  number-at (suc zero) h = refl
-  number-at (suc (suc zero)) h = refl
-  number-at (suc (suc (suc zero))) h = refl
-  number-at (suc (suc (suc (suc j)))) h = absurd (omega arith)
-
   module _ (k : ℕ) (h : Hour) where
-    pub figure-passed : (j : ℕ) → j < 4 → passesTest (quantityAt j) h ≡ true → figuresLeft k h j ≡ figuresLeft k h (j + 1)
-    unfolding figuresLeft judgedFigures
-    figure-passed j b e = rw (drop-quantity j b, judgedFigures, e)
+    figure-step : (j : ℕ) → j < figureCount → (pass : Bool) → passesTest (figureAt j .quantity) h ≡ pass →
+        figuresLeft k h j ≡ failedOr (unless pass (figureAt j .number) orElse failureOf (drop (j + 1) figuresTried) h) (suc k) (left (k + 1))
+    unfolding figuresLeft firstFailing
+    figure-step j b pass e =
+        ap (λ (ts : List Tried). failedOr (failureOf ts h) (suc k) (left (k + 1))) (drop-figure j b)
+        ∙ ap (λ (t : Bool). failedOr (unless t (figureAt j .number) orElse failureOf (drop (j + 1) figuresTried) h) (suc k) (left (k + 1))) e
 
-    pub figure-failed : (j : ℕ) → j < 4 → passesTest (quantityAt j) h ≡ false → figuresLeft k h j ≡ refusedAt (11 + j) (lineFor file (quantityAt j) k)
-    unfolding figuresLeft judgedFigures
-    figure-failed j b e = rw (drop-quantity j b, judgedFigures, e, number-at j b)
+    pub figure-passed : (j : ℕ) → j < figureCount → passesTest (figureAt j .quantity) h ≡ true → figuresLeft k h (j + 1) ≡ figuresLeft k h j
+    unfolding figuresLeft
+    figure-passed j b e = sym (figure-step j b true e)
 
-    pub figures-done : figuresLeft k h 4 ≡ left (k + 1)
-    unfolding figuresLeft judgedFigures
+    pub figure-failed : (j : ℕ) → j < figureCount → passesTest (figureAt j .quantity) h ≡ false → failedAt (figureAt j .number) (suc k) ≡ figuresLeft k h j
+    figure-failed j b e = sym (figure-step j b false e ∙ some (figureAt j .number) _ _ (figure-some j b))
+      where
+        some : (number rest : ℕ) (v : Verdict) → 0 < number → failedOr (number orElse rest) (suc k) v ≡ failedAt number (suc k)
+        some zero rest v l = absurd (omega arith)
+        some (suc c) rest v l = refl
+
+    pub figures-done : figuresLeft k h figureCount ≡ left (k + 1)
+    unfolding figuresLeft firstFailing
     figures-done = refl
 
   -- the running totals come to the totals of all hours
@@ -119,10 +89,9 @@ module _ (file : List ℕ) (s : Shape) where
   pub totals-end : (t : Totals) → runningTotals t (hoursLeft (s .hours)) ≡ t
   totals-end t = rw (ranked-end (hourAt file) (s .hours) (s .hours) (omega arith)) (running-end t)
 
-  pub ending-is : Standing file s → (t : Totals) → t ≡ totalsOf (hoursOf file) →
-      comparedTotals (lineOf s QuarterTotals 0) (quarterOf t) (totalsIn file) ≡ ending
+  pub ending-is : (t : Totals) → t ≡ totalsOf (hoursOf file) → comparedTotals (quarterOf t) (totalsIn file) ≡ ending
   unfolding ending
-  ending-is d t e = rw (quarter-formed t (hoursOf file) e, totals-line file s d)
+  ending-is t e = rw (quarter-formed t (hoursOf file) e)
 
 -- the hour pass stands at hour k, whose 300 line is the next that operates from place p on, with these totals
 pub record HourPass (file : List ℕ) (s : Shape) (totals : Totals) (k p : ℕ) : Type 0 where
@@ -131,20 +100,20 @@ pub record HourPass (file : List ℕ) (s : Shape) (totals : Totals) (k p : ℕ) 
   pub room : Room totals
   pub count : totals .hours ≡ k
   pub sums : runningTotals totals (hoursLeft file s k) ≡ totalsOf (hoursOf file)
-  pub rest : left file s k ≡ judged file
+  pub rest : left file s k ≡ verdictOn file
 
 -- the figures of hour k are passed up to figure j
 pub record FigurePass (file : List ℕ) (s : Shape) (k : ℕ) (hour : Hour) (j : ℕ) : Type 0 where
-  pub few : j ≤ 4
-  pub rest : figuresLeft file s k hour j ≡ judged file
+  pub few : j ≤ figureCount
+  pub rest : figuresLeft file s k hour j ≡ verdictOn file
 
 -- hour k, whose figures all passed, was added
 pub pass-next : (file : List ℕ) (s : Shape) → Standing file s → (t : Totals) (k from place : ℕ) (h : Hour) (j : ℕ) (grown : Totals) →
     HourPass file s t k from → k < s .hours →
     place ≡ operatingPlace file s from → h ≡ hourAt file k →
-    grown ≡ withHour t (h .figures) (h .time) → Room grown → FigurePass file s k h j → 4 ≤ j → HourPass file s grown (k + 1) (place + 1)
+    grown ≡ withHour t (h .figures) (h .time) → Room grown → FigurePass file s k h j → figureCount ≤ j → HourPass file s grown (k + 1) (place + 1)
 pass-next file s d t k from place h j grown p b q e g r f l =
-    let z : j ≡ 4 = omega (arith, f .few) in
+    let z : j ≡ figureCount = omega (arith, f .few) in
     let done = rw z at (f .rest) in
     record {
       few = omega arith;
@@ -156,10 +125,9 @@ pass-next file s d t k from place h j grown p b q e g r f l =
     }
 
 -- no hour is left
-pub pass-end : (file : List ℕ) (s : Shape) (t : Totals) (k p : ℕ) {line : ℕ} {formed stated : Quarter} → Standing file s → HourPass file s t k p →
-    k ≡ s .hours →
-    line ≡ lineOf s QuarterTotals 0 → formed ≡ quarterOf t → stated ≡ totalsIn file → comparedTotals line formed stated ≡ judged file
-pass-end file s t k place d p e l f g =
+pub pass-end : (file : List ℕ) (s : Shape) (t : Totals) (k p : ℕ) {formed stated : Quarter} → HourPass file s t k p → k ≡ s .hours →
+    formed ≡ quarterOf t → stated ≡ totalsIn file → comparedTotals formed stated ≡ verdictOn file
+pass-end file s t k place p e f g =
     let sums = rw e at (p .sums) in
     let rest = rw e at (p .rest) in
-    rw (l, f, g) (ending-is file s d t (sym (totals-end file s t) ∙ sums) ∙ sym (left-end file s) ∙ rest)
+    rw (f, g) (ending-is file s t (sym (totals-end file s t) ∙ sums) ∙ sym (left-end file s) ∙ rest)

@@ -5,6 +5,7 @@ use lib.ListN.{replicate, take, drop}
 use mathlib.Core.List.{List, [], _∷_, _++_}
 use Prim.Native.Nat.{ℕ, _+_, _*_, _-_}
 use Rattle.exact.specs.Logic.{ranked}
+use Rattle.exact.specs.Faults.{firstFailing}
 use Rattle.exact.specs.Fraction.{over}
 use Rattle.exact.specs.Behind.{meets}
 use Rattle.exact.specs.Sums.{totalOf}
@@ -28,7 +29,8 @@ use Rattle.lines.specs.LineFaults.{so2Fault, hasGas, so2Blank, gasFault, operat
 use Rattle.reading.specs.Reading.{runOf, runsOf, walkDue, endOperations, walkOperations, walkEnd, walkLast, walkListed, walkLater, walkHours, walk, readOf}
 use Rattle.reading.specs.Idle.{withoutIdle, WithoutIdle}
 use Rattle.reading.specs.Recorded.{linesWith, idle, recordsOf, valueOn, hourAt, hoursOf, totalsIn}
-use Rattle.checker.specs.Checked.{refusal, answerNumbers, judgedFigures, judgedHours, firstDiffering, comparedTotals, judged, afterReading, checked}
+use Rattle.judging.specs.Judged.{judgedHours, comparedTotals, judgedQuarter}
+use Rattle.checker.specs.Checked.{refusal, answerNumbers, judged, afterReading, checked}
 
 -- one hour at 2005 quarter 3, hour 0, time 0.50, SO2 250.0, NOx 200.0, CO2 12.0, flow 20,000,000, Fc 1,800.0
 unfoldable pub workedHour : List ℕ
@@ -286,6 +288,6 @@ unfolding workedHour emptyQuarter allAnswered allNamed put listed withListed emp
     hourOfQuarter quarterHour numberHour fieldHour stampHour passesTest totalsOf meanOf quarterOf quarterTotals onto lines last typeIs shapeFault
     stackFault commonFault within fieldFault valuesFault digitsIn facilityFault facilityLine risingFault datedFault hourFault hourNumber hourLine dateFault
     dueFault operates idleFault operatingFault timedFault operationFault saidOf operationLine runOf runsOf walkDue endOperations walkOperations walkEnd
-    walkLast walkListed walkLater walkHours walk readOf linesWith idle recordsOf valueOn hourAt ranked hoursOf totalsIn judgedFigures judgedHours
-    firstDiffering comparedTotals judged afterReading checked isEmpty so2Fault hasGas so2Blank gasFault
+    walkLast walkListed walkLater walkHours walk readOf linesWith idle recordsOf valueOn hourAt ranked hoursOf totalsIn firstFailing judgedHours judgedQuarter
+    comparedTotals judged afterReading checked isEmpty so2Fault hasGas so2Blank gasFault
 answers = (refl, refl, refl, refl, refl, refl, refl, refl, refl)

@@ -7,7 +7,8 @@ use Rattle.totals.specs.declared.Quarter.{Quarter}
 use Rattle.reading.specs.Recorded.{hoursOf, totalsIn}
 use Rattle.reading.specs.RightFile.{RightFile}
 use Rattle.reading.specs.declared.Report.{Report}
-use Rattle.checker.specs.Checked.{acceptance, answerNumbers, checked}
+use Rattle.judging.specs.Judged.{acceptance}
+use Rattle.checker.specs.Checked.{answerNumbers, checked}
 
 pub record IdleFree (file other : List ℕ) : Type 0 where
   pub hours : hoursOf other ≡ hoursOf file

@@ -1,18 +1,16 @@
 -- Idle lines change nothing of an acceptance. Idle.antt states it.
 use Prim.Native.Nat.{ℕ}
-use mathlib.Core.Path.{_≡_, sym, ap, subst₂, _∙_}
+use mathlib.Core.Path.{_≡_, sym, ap, ap₂, _∙_}
 use mathlib.Core.List.{List}
-use Rattle.formulas.specs.declared.hour.Hour.{Hour}
-use Rattle.totals.specs.Totals.{quarterTotals}
 use Rattle.totals.specs.declared.Quarter.{Quarter}
 use Rattle.reading.specs.Recorded.{hoursOf, totalsIn}
 use Rattle.reading.specs.RightFile.{RightFile}
 use Rattle.reading.specs.Idle.{WithoutIdle}
 use Rattle.reading.specs.IdleLaws.{idle-hours, idle-totals, idle-right}
 use Rattle.reading.specs.declared.Report.{Report}
-use Rattle.checker.specs.Checked.{acceptance, answerNumbers, checked}
+use Rattle.judging.specs.Judged.{acceptance, judgedQuarter}
+use Rattle.checker.specs.Checked.{answerNumbers, checked}
 use Rattle.checker.specs.Idle.{IdleFree}
-use Rattle.checker.specs.JudgedLaws.{Agree}
 use Rattle.checker.specs.PromiseLaws.{accepted-facts, facts-accepted, accepts}
 
 -- files of which the lines are right, with the same hours and totals, are accepted alike
@@ -23,9 +21,7 @@ same-accepted file other report x h t r e =
     ap answerNumbers (facts-accepted other r (record {
       report = report;
       right = x;
-      pass = rw h at (f .pass);
-      formed = ap quarterTotals (sym h) ∙ f .formed;
-      agree = subst₂ (λ (hs : List Hour) (q : Quarter). Agree (quarterTotals hs) q) h t (f .agree);
+      verdict = sym (ap₂ judgedQuarter h t) ∙ f .verdict;
     }))
 
 pub idle-free : (file other : List ℕ) → WithoutIdle file other → IdleFree file other

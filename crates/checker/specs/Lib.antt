@@ -1,8 +1,7 @@
 pub mod Checked
 pub mod Judging
+pub mod JudgingLaws
 pub mod Promise
-pub mod JudgedLaws
-pub mod BoundLaws
 pub mod PromiseLaws
 pub mod Idle
 pub mod IdleLaws

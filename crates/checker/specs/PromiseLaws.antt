@@ -1,32 +1,25 @@
 -- The promise holds of what the check answers to every file. Promise.antt states it.
-use Prim.Native.Nat.{ℕ, _+_, _≤_}
-use mathlib.Core.Path.{_≡_, refl, sym, ap, subst, subst₂, _∙_}
+use Prim.Native.Nat.{ℕ}
+use mathlib.Core.Path.{_≡_, refl, sym, ap, subst, _∙_}
 use mathlib.Core.List.{List, [], _∷_}
 use mathlib.Core.Bool.{false, false≢true}
-use mathlib.Core.Logic.{⊎-elim}
 use native.Mathlib.Omega.{arith}
-use lib.Dec.{lit<}
 use lib.ListN.{length, getD}
-use Rattle.calendar.specs.Calendar.{mostHours}
-use Rattle.exact.specs.Logic.{ranked-length, All, ranked-all}
-use Rattle.exact.specs.Fraction.{fraction, Near}
-use Rattle.exact.specs.Rounding.{recorded}
-use Rattle.formulas.specs.Hour.{tenth, HourWithin, HoursWithin, Unrounded}
-use Rattle.formulas.specs.Formulas.{Entry, entryOf}
-use Rattle.formulas.specs.FormulaLaws.{test-exact}
+use Rattle.exact.specs.Logic.{clash, ranked-length, All, ranked-all}
+use Rattle.formulas.specs.Hour.{HourWithin, Unrounded}
 use Rattle.totals.specs.Totals.{quarterTotals}
-use Rattle.totals.specs.TotalLaws.{quarter-hours}
-use Rattle.totals.specs.Mass.{massTons}
-use Rattle.totals.specs.MassLaws.{mass-near}
 use Rattle.totals.specs.FitLaws.{QuarterMost, totals-most}
-use Rattle.layout.specs.declared.RecordType.the-variants.{QuarterTotals}
-use Rattle.formulas.specs.declared.hour.Hour.{Hour}
+use Rattle.layout.specs.declared.RecordType.{RecordType}
 use Rattle.formulas.specs.declared.hour.Quantity.{Quantity}
 use Rattle.totals.specs.declared.Quarter.{Quarter}
+use Rattle.judging.specs.Judged.{numberFor, Stated, statedTotals, acceptance, failedAt}
+use Rattle.judging.specs.JudgedPromise.{DiffersFirst, JudgedPromise}
+use Rattle.judging.specs.JudgedLaws.{each-figure, said-same}
+use Rattle.judging.specs.declared.Verdict.{Verdict}
+use Rattle.judging.specs.declared.Verdict.the-variants.{Accepted as Right, Refused as Failed}
 use Rattle.lines.specs.Clauses.{ofLineChecks}
 use Rattle.reading.specs.Reading.{readOf}
 use Rattle.reading.specs.Recorded.{recordAt, hourCount, hourAt, hoursOf, totalsIn}
-use Rattle.reading.specs.CleanFile.{CleanFile, clean-file, clean-hour}
 use Rattle.reading.specs.RecordLaws.{hours-standing, operating-lines}
 use Rattle.reading.specs.RefusedLaws.{refused-by, refused-number}
 use Rattle.reading.specs.RightFile.{RightFile}
@@ -34,11 +27,9 @@ use Rattle.reading.specs.RightFileLaws.{read-right, right-read}
 use Rattle.reading.specs.declared.Report.{Report}
 use Rattle.reading.specs.declared.Reading.{Reading}
 use Rattle.reading.specs.declared.Reading.the-variants.{Clean, Refused as Stopped}
-use Rattle.checker.specs.Checked.{Stated, statedTotals, acceptance, refusal, answerNumbers, refusedAt, numberFor, comparedTotals, judged, afterReading, checked}
-use Rattle.checker.specs.Promise.{LieBehind, SetsBehind, HonestlyRounded, exactAmount, reported, allowed, operatingLines, FailsAt, DiffersAt, Promise}
-use Rattle.checker.specs.JudgedLaws.{never-accepted, same-number, Passes, AllPass, hours-accepted, hours-pass, Failing, hours-refused, hours-over}
-use Rattle.checker.specs.JudgedLaws.{numbers-high, numbers-apart, Agree, all-agree, totals-accepted, totals-agree, totals-differ, totals-refused, number-high}
-use Rattle.checker.specs.BoundLaws.{amount-bound}
+use Rattle.checker.specs.Checked.{refusal, answerNumbers, refusedAt, lineNamed, answerOf, verdictOn, judged, afterReading, checked}
+use Rattle.checker.specs.JudgingLaws.{right-judgeable, figure-named, file-judged}
+use Rattle.checker.specs.Promise.{HonestlyRounded, operatingLines, FailsAt, DiffersAt, Promise}
 use Rattle.checker.specs.declared.Answer.{Answer}
 use Rattle.checker.specs.declared.Answer.the-variants.{Accepted, Refused}
 
@@ -46,160 +37,137 @@ pub hours-count : (file : List ℕ) → length (hoursOf file) ≡ hourCount file
 unfolding hoursOf
 hours-count file = ranked-length (hourAt file) 0 (hourCount file)
 
-all-within : (file : List ℕ) (r : Report) → CleanFile file r → HoursWithin (hoursOf file)
-unfolding hoursOf
-all-within file r c =
-    ranked-all HourWithin (hourAt file) (r .shape .hours) 0 (hourCount file) (clean-hour file r c)
-    (omega (arith, hours-standing file (r .shape) (c .standing)))
+-- what an answer says is an acceptance's or a refusal's
+never-accepted : {A : Type 0} (number line : ℕ) (r : Quarter) → refusedAt number line ≡ Accepted r → A
+never-accepted number line r e = clash cc
 
--- behind figures that pass lie readings, and figures behind which readings lie pass
-pass-behind : (q : Quantity) (hs : List Hour) → HoursWithin hs → AllPass hs → (es : List (Entry q)) × LieBehind q hs es
-unfolding Passes
-pass-behind q [] w p = ([], tt)
-pass-behind q (h ∷ hs) w p =
-    let b = test-exact q h (w .0 .readings) .0 (p .0 q) in
-    let r = pass-behind q hs (w .1) (p .1) in
-    (b .0 ∷ r .0, (b .1, r .1))
+numberIn : Answer → ℕ
+numberIn (Accepted r) = 0
+numberIn (Refused r) = r .number
 
-behind-pass : (hs : List Hour) (sets : List Unrounded) → HoursWithin hs → SetsBehind hs sets → AllPass hs
-unfolding Passes
-behind-pass [] [] w b = tt
-behind-pass [] (s ∷ ss) w b = absurd b
-behind-pass (h ∷ hs) [] w b = absurd b
-behind-pass (h ∷ hs) (s ∷ ss) w b = ((λ q. test-exact q h (w .0 .readings) .1 (entryOf q s, b .0 q)), behind-pass hs ss (w .1) (b .1))
+lineIn : Answer → ℕ
+lineIn (Accepted r) = 0
+lineIn (Refused r) = r .line
+
+same-refusal : (a b c d : ℕ) → refusedAt a b ≡ refusedAt c d → (a ≡ c) × (b ≡ d)
+unfolding numberIn lineIn
+same-refusal a b c d e = (ap numberIn e, ap lineIn e)
+
+-- what judging promises of a file whose lines are right
+right-judged : (file : List ℕ) (report : Report) → RightFile file report → JudgedPromise (hourAt file) (hourCount file) (totalsIn file) (verdictOn file)
+right-judged file report right = file-judged file (report .shape) (right-judgeable file report right)
 
 -- what an acceptance says
 pub record Facts (file : List ℕ) (r : Quarter) : Type 0 where
   pub report : Report
   pub right : RightFile file report
-  pub pass : AllPass (hoursOf file)
-  pub formed : quarterTotals (hoursOf file) ≡ r
-  pub agree : Agree (quarterTotals (hoursOf file)) (totalsIn file)
+  pub verdict : verdictOn file ≡ Right r
 
-formed-hours : (file : List ℕ) → quarterTotals (hoursOf file) .hours ≡ hourCount file
-formed-hours file = quarter-hours (hoursOf file) ∙ hours-count file
+answer-accepted : (file : List ℕ) (v : Verdict) (r : Quarter) → answerOf file v ≡ Accepted r → v ≡ Right r
+answer-accepted file (Right q) r e = ap Right (same q r e)
+  where
+    same : (a b : Quarter) → Accepted a ≡ Accepted b → a ≡ b
+    same a b w = cc
+answer-accepted file (Failed f) r e = never-accepted (f .number) (lineNamed file (f .number) (f .rank)) r e
 
 pub accepted-facts : (file : List ℕ) (r : Quarter) → checked file ≡ Accepted r → Facts file r
 unfolding checked afterReading judged
 accepted-facts file r e = go (readOf file) refl e
   where
     go : (x : Reading) → readOf file ≡ x → afterReading file x ≡ Accepted r → Facts file r
-    go (Clean report) c w =
-        let line = recordAt file QuarterTotals 0 .number in
-        let h = hours-accepted file 0 (hoursOf file) (comparedTotals line (quarterTotals (hoursOf file)) (totalsIn file)) r w in
-        let t = totals-accepted (quarterTotals (hoursOf file)) (totalsIn file) line r (h .1) in
-        record { report = report; right = read-right file report c; pass = h .0; formed = t .0; agree = t .1 }
+    go (Clean report) c w = record { report = report; right = read-right file report c; verdict = answer-accepted file (verdictOn file) r w }
     go (Stopped x) c w = never-accepted (x .number) (x .line) r w
 
 -- a file of which they hold is accepted with these totals
 pub facts-accepted : (file : List ℕ) (r : Quarter) → Facts file r → checked file ≡ Accepted r
 unfolding checked afterReading judged
-facts-accepted file r f =
-    let hs = hoursOf file in
-    ap (afterReading file) (right-read file (f .report) (f .right))
-    ∙ hours-pass file 0 hs _ (f .pass)
-    ∙ totals-agree (quarterTotals hs) (totalsIn file) (recordAt file QuarterTotals 0 .number) (f .agree)
-    ∙ ap Accepted (f .formed)
+facts-accepted file r f = ap (afterReading file) (right-read file (f .report) (f .right)) ∙ ap (answerOf file) (f .verdict)
 
 -- an honest file is accepted with the totals formed
 pub honest-checked : (file : List ℕ) (sets : List Unrounded) → HonestlyRounded file sets → checked file ≡ Accepted (quarterTotals (hoursOf file))
+unfolding hoursOf
 honest-checked file sets h =
     facts-accepted file (quarterTotals (hoursOf file)) (record {
       report = h .report;
       right = h .right;
-      pass = behind-pass (hoursOf file) sets (all-within file (h .report) (clean-file file (h .report) (h .right))) (h .behind);
-      formed = refl;
-      agree = all-agree statedTotals (sym (h .totals));
+      verdict = right-judged file (h .report) (h .right) .honest sets (h .behind) (h .totals);
     })
 
-same-quarter : (f s : Quarter) → f .hours ≡ s .hours → Agree f s → f ≡ s
-same-quarter f s h a =
-    λ i. record { hours = h i; so2 = a .0 i; co2 = a .1 .0 i; heat = a .1 .1 .0 i; nox = a .1 .1 .1 .0 i; «nox_tons» = a .1 .1 .1 .1 .0 i }
+-- what a refusal says that is none of the line checks
+record Refusing (file : List ℕ) (number line : ℕ) : Type 0 where
+  pub report : Report
+  pub right : RightFile file report
+  pub rank : ℕ
+  pub verdict : verdictOn file ≡ failedAt number rank
+  pub own : line ≡ lineNamed file number rank
 
-refused-rightly : (file : List ℕ) (q : Quantity) (line : ℕ) → checked file ≡ refusedAt (numberFor q) line → FailsAt file q line
-unfolding checked afterReading judged hoursOf Passes
-refused-rightly file q line e = go (readOf file) refl e
+refusing : (file : List ℕ) (number line : ℕ) → ofLineChecks number ≡ false → checked file ≡ refusedAt number line → Refusing file number line
+unfolding checked afterReading judged
+refusing file number line apart e = go (readOf file) refl e
   where
-    go : (x : Reading) → readOf file ≡ x → afterReading file x ≡ refusedAt (numberFor q) line → FailsAt file q line
-    go (Stopped x) c w = absurd (number-high q (x .number) (x .line) line w (refused-number (refused-by file x c)))
-    go (Clean report) c w =
-        let x = read-right file report c in
-        let f = clean-file file report x in
-        let n = hours-standing file (report .shape) (f .standing) in
-        ⊎-elim
-        (λ (g : Failing file 0 (0 + hourCount file) q line).
+    failing : (report : Report) → RightFile file report → (v : Verdict) → verdictOn file ≡ v → answerOf file v ≡ refusedAt number line →
+        Refusing file number line
+    failing report right (Right q) o w = never-accepted number line q (sym w)
+    failing report right (Failed f) o w =
+        let s = same-refusal (f .number) (lineNamed file (f .number) (f .rank)) number line w in
         record {
           report = report;
-          right = x;
-          hour = g .hour;
-          exists = omega (arith, g .exists);
-          own = g .own;
-          nothing =
-              λ e b. let t = test-exact q (hourAt file (g .hour)) (clean-hour file report f (g .hour) (omega (arith, g .exists)) .readings) .1
-              (e, b) in let l = g .fails in let z : _≡_ {A = ℕ} 0 1 = cc in omega arith;
-          earlier =
-              λ k b p.
-              test-exact p (hourAt file k) (clean-hour file report f k (omega (arith, g .exists)) .readings) .0 (g .earlier k (omega arith) b p);
-          before =
-              λ p b. test-exact p (hourAt file (g .hour)) (clean-hour file report f (g .hour) (omega (arith, g .exists)) .readings) .0 (g .before p b);
-        })
-        (λ z. absurd (totals-refused (quarterTotals (hoursOf file)) (totalsIn file) (recordAt file QuarterTotals 0 .number) q line z))
-        (hours-refused file 0 (hourCount file) (comparedTotals (recordAt file QuarterTotals 0 .number) (quarterTotals (hoursOf file)) (totalsIn file)) q line w)
+          right = right;
+          rank = f .rank;
+          verdict = o ∙ ap (λ (n : ℕ). failedAt n (f .rank)) (s .0);
+          own = sym (s .1) ∙ ap (λ (n : ℕ). lineNamed file n (f .rank)) (s .0);
+        }
 
-refused-total : (file : List ℕ) (number line : ℕ) → 15 ≤ number → ofLineChecks number ≡ false → checked file ≡ refusedAt number line →
-    DiffersAt file number line
-unfolding checked afterReading judged
-refused-total file number line b a e = go (readOf file) refl e
-  where
-    go : (x : Reading) → readOf file ≡ x → afterReading file x ≡ refusedAt number line → DiffersAt file number line
-    go (Stopped x) c w = absurd (false≢true (sym a ∙ rw (same-number (x .number) (x .line) number line w .0) at (refused-number (refused-by file x c))))
-    go (Clean report) c w =
-        let said = recordAt file QuarterTotals 0 .number in
-        let formed = quarterTotals (hoursOf file) in
-        let h = hours-over file 0 (hoursOf file) _ number line b w in
-        let t = totals-differ formed (totalsIn file) said number line (h .1) in
-        let x = read-right file report c in
-        let within = all-within file report (clean-file file report x) in
-        record { report = report; right = x; own = t .0; behind = λ q. pass-behind q (hoursOf file) within (h .0); first = t .1 }
+    go : (x : Reading) → readOf file ≡ x → afterReading file x ≡ refusedAt number line → Refusing file number line
+    go (Stopped x) c w = absurd (false≢true (sym apart ∙ rw (same-refusal (x .number) (x .line) number line w .0) at (refused-number (refused-by file x c))))
+    go (Clean report) c w = failing report (read-right file report c) (verdictOn file) refl w
 
-module _ (file : List ℕ) (r : Quarter) (e : checked file ≡ Accepted r) where
-  accepted-within : HoursWithin (hoursOf file)
-  accepted-within = let f = accepted-facts file r e in all-within file (f .report) (clean-file file (f .report) (f .right))
+-- the numbers of figures and totals are none of the line checks
 
-  accepted-behind : (q : Quantity) → (es : List (Entry q)) × LieBehind q (hoursOf file) es
-  accepted-behind q = pass-behind q (hoursOf file) accepted-within (accepted-facts file r e .pass)
+figures-apart : (q : Quantity) → ofLineChecks (numberFor q) ≡ false
+figures-apart = each-figure (λ q. ofLineChecks (numberFor q) ≡ false) (refl, (refl, (refl, (refl, tt))))
 
-  accepted-count : r .hours ≡ hourCount file
-  accepted-count = ap (λ (y : Quarter). y .hours) (sym (accepted-facts file r e .formed)) ∙ formed-hours file
+totals-apart : All (λ (t : Stated). ofLineChecks (t .number) ≡ false) statedTotals
+totals-apart = (refl, (refl, (refl, (refl, (refl, tt)))))
 
-  -- as many 300 lines have a positive time
-  accepted-operating : r .hours ≡ length (operatingLines file)
-  accepted-operating =
-      let f = accepted-facts file r e in
-      let d = clean-file file (f .report) (f .right) .standing in
-      accepted-count ∙ hours-standing file (f .report .shape) d ∙ sym (d .operating) ∙ ap length (operating-lines file)
+refused-rightly : (file : List ℕ) (q : Quantity) (line : ℕ) → checked file ≡ refusedAt (numberFor q) line → FailsAt file q line
+refused-rightly file q line e =
+    let r = refusing file (numberFor q) line (figures-apart q) e in
+    let f = right-judged file (r .report) (r .right) .rightly q (r .rank) (r .verdict) in
+    record {
+      report = r .report;
+      right = r .right;
+      hour = f .hour;
+      exists = f .exists;
+      own =
+          r .own ∙ ap (lineNamed file (numberFor q)) (f .own) ∙ ap (λ (t : RecordType). recordAt file t (f .hour) .number) (figure-named q);
+      nothing = f .nothing;
+      earlier = f .earlier;
+      before = f .before;
+    }
 
-  accepted-bounds : (q : Quantity) (es : List (Entry q)) → LieBehind q (hoursOf file) es →
-      Near (exactAmount q (hoursOf file) es) (reported q r) (allowed q (r .hours))
-  accepted-bounds q es b =
-      subst₂ (λ (x : Quarter) (n : ℕ). Near (exactAmount q (hoursOf file) es) (reported q x) (allowed q n)) (accepted-facts file r e .formed)
-      (hours-count file ∙ sym accepted-count)
-      (amount-bound q (hoursOf file) es accepted-within b)
+-- a total refused, where judging says so of its number
+refused-total : (file : List ℕ) (t : Stated) (line : ℕ) → ofLineChecks (t .number) ≡ false →
+    ((report : Report) → RightFile file report → (rank : ℕ) → verdictOn file ≡ failedAt (t .number) rank →
+    DiffersFirst (hourAt file) (hourCount file) (totalsIn file) (t .number) rank) →
+    checked file ≡ refusedAt (t .number) line → DiffersAt file (t .number) line
+unfolding hoursOf
+refused-total file t line apart judged e =
+    let r = refusing file (t .number) line apart e in
+    let d = judged (r .report) (r .right) (r .rank) (r .verdict) in
+    record { report = r .report; right = r .right; own = r .own ∙ ap (lineNamed file (t .number)) (d .own); behind = d .behind; first = d .first }
 
-  accepted-mass : Near (massTons (hoursOf file)) (recorded tenth (r .«nox_tons»)) (fraction 1 20 (lit< tt))
-  accepted-mass =
-      subst (λ (x : Quarter). Near (massTons (hoursOf file)) (recorded tenth (x .«nox_tons»)) (fraction 1 20 (lit< tt))) (accepted-facts file r e .formed)
-      (mass-near (hoursOf file))
-
-  accepted-totals : r ≡ totalsIn file
-  unfolding totalsIn
-  accepted-totals = let f = accepted-facts file r e in same-quarter r (totalsIn file) accepted-count (rw (f .formed) at (f .agree))
+-- as many 300 lines of a file with right lines have a positive time as it has hours
+operating-count : (file : List ℕ) (report : Report) → RightFile file report → hourCount file ≡ length (operatingLines file)
+operating-count file report right =
+    let d = right-judgeable file report right .standing in
+    hours-standing file (report .shape) d ∙ sym (d .operating) ∙ ap length (operating-lines file)
 
 -- the numbers that an answer says determine it
 pub accepts : (answer : Answer) (r : Quarter) → answerNumbers answer ≡ acceptance r → answer ≡ Accepted r
 accepts (Accepted q) r e =
     let at : (k : ℕ) → getD (acceptance q) k 0 ≡ getD (acceptance r) k 0 = λ k. ap (λ (l : List ℕ). getD l k 0) e in
-    ap Accepted (same-quarter q r (at 0) (at 1, (at 2, (at 3, (at 4, (at 5, tt))))))
+    ap Accepted (said-same q r (at 0) (at 1, (at 2, (at 3, (at 4, (at 5, tt))))))
 accepts (Refused x) r e = absurd (let l = ap length e in omega arith)
 
 refuses : (answer : Answer) (number line : ℕ) → answerNumbers answer ≡ refusal number line → answer ≡ refusedAt number line
@@ -208,34 +176,47 @@ refuses (Refused x) number line e =
     let at : (k : ℕ) → getD (refusal (x .number) (x .line)) k 0 ≡ getD (refusal number line) k 0 = λ k. ap (λ (l : List ℕ). getD l k 0) e in
     λ i. Refused (record { number = at 0 i; line = at 1 i })
 
+module _ (file : List ℕ) where
+  -- what an acceptance rests on, by its numbers
+  accepting : (r : Quarter) → answerNumbers (checked file) ≡ acceptance r → Facts file r
+  accepting r e = accepted-facts file r (accepts (checked file) r e)
+
+  judging : {r : Quarter} → Facts file r → JudgedPromise (hourAt file) (hourCount file) (totalsIn file) (verdictOn file)
+  judging f = right-judged file (f .report) (f .right)
+
 -- how large what an acceptance says may be
 pub accepted-most : (file : List ℕ) (r : Quarter) → answerNumbers (checked file) ≡ acceptance r → QuarterMost r
+unfolding hoursOf
 accepted-most file r e =
-    let a = accepts (checked file) r e in
-    let f = accepted-facts file r a in
-    let s = clean-file file (f .report) (f .right) .standing in
-    let n : length (hoursOf file) ≤ mostHours = omega (arith, hours-count file, hours-standing file (f .report .shape) s, s .held .hours) in
-    subst QuarterMost (f .formed) (totals-most (hoursOf file) (accepted-within file r a) n)
+    let f = accepting file r e in
+    let j = right-judgeable file (f .report) (f .right) in
+    let n = hours-standing file (f .report .shape) (j .standing) in
+    let within = ranked-all HourWithin (hourAt file) (f .report .shape .hours) 0 (hourCount file) (j .within) (omega (arith, n)) in
+    subst QuarterMost (sym (judging file f .formed r (f .verdict)))
+    (totals-most (hoursOf file) within (omega (arith, hours-count file, n, j .standing .held .hours)))
 
 pub promise : (file : List ℕ) → Promise file (checked file)
-promise file =
-    let yes : (r : Quarter) → answerNumbers (checked file) ≡ acceptance r → checked file ≡ Accepted r = accepts (checked file) in
-    record {
-      honest = λ sets h. (quarterTotals (hoursOf file), ap answerNumbers (honest-checked file sets h));
-      behind = λ r e. accepted-behind file r (yes r e);
-      bounds = λ r e. accepted-bounds file r (yes r e);
-      mass = λ r e. accepted-mass file r (yes r e);
-      rightly = λ q line e. refused-rightly file q line (refuses (checked file) (numberFor q) line e);
-      differs = each statedTotals numbers-high numbers-apart;
-      count = λ r e. accepted-count file r (yes r e);
-      operating = λ r e. accepted-operating file r (yes r e);
-      formed = λ r e. sym (accepted-facts file r (yes r e) .formed);
-      totals = λ r e. accepted-totals file r (yes r e);
-      lines = λ r e. let f = accepted-facts file r (yes r e) in (f .report, f .right);
-    }
+unfolding hoursOf totalsIn
+promise file = record {
+  honest = λ sets h. (quarterTotals (hoursOf file), ap answerNumbers (honest-checked file sets h));
+  behind = λ r e. let f = accepting file r e in judging file f .behind r (f .verdict);
+  bounds = λ r e. let f = accepting file r e in judging file f .bounds r (f .verdict);
+  mass = λ r e. let f = accepting file r e in judging file f .mass r (f .verdict);
+  rightly = λ q line e. refused-rightly file q line (refuses (checked file) (numberFor q) line e);
+  differs = each statedTotals totals-apart (λ report right. right-judged file report right .differs);
+  count = λ r e. let f = accepting file r e in judging file f .count r (f .verdict);
+  operating = λ r e. let f = accepting file r e in judging file f .count r (f .verdict) ∙ operating-count file (f .report) (f .right);
+  formed = λ r e. let f = accepting file r e in judging file f .formed r (f .verdict);
+  totals = λ r e. let f = accepting file r e in judging file f .totals r (f .verdict) refl;
+  lines = λ r e. let f = accepting file r e in (f .report, f .right);
+}
   where
-    each : (ts : List Stated) → All (λ (t : Stated). 15 ≤ t .number) ts → All (λ (t : Stated). ofLineChecks (t .number) ≡ false) ts →
+    each : (ts : List Stated) → All (λ (t : Stated). ofLineChecks (t .number) ≡ false) ts →
+        ((report : Report) → RightFile file report → All (λ (t : Stated). (rank : ℕ) → verdictOn file ≡ failedAt (t .number) rank →
+        DiffersFirst (hourAt file) (hourCount file) (totalsIn file) (t .number) rank) ts) →
         All (λ (t : Stated). (line : ℕ) → answerNumbers (checked file) ≡ refusal (t .number) line → DiffersAt file (t .number) line) ts
-    each [] h a = tt
-    each (t ∷ ts) h a =
-        ((λ line e. refused-total file (t .number) line (h .0) (a .0) (refuses (checked file) (t .number) line e)), each ts (h .1) (a .1))
+    each [] a d = tt
+    each (t ∷ ts) a d = (
+      (λ line e. refused-total file t line (a .0) (λ report right. d report right .0) (refuses (checked file) (t .number) line e)),
+      each ts (a .1) (λ report right. d report right .1),
+    )

@@ -5,19 +5,19 @@ use mathlib.Core.List.{List, List·Memᴰ}
 use mathlib.Core.Bool.{Bool, _&&_, _||_}
 use lib.Dec.{eqb, leb}
 use Rattle.layout.specs.declared.RecordType.the-variants.{QuarterTotals}
-use Rattle.formulas.specs.declared.hour.Quantity.{Quantity}
 use Rattle.totals.specs.declared.Quarter.{Quarter}
 use Rattle.lines.specs.Clauses.{ofLineChecks}
 use Rattle.reading.specs.Recorded.{HasRecord}
 use Rattle.reading.specs.Refused.{RefusedBy}
-use Rattle.checker.specs.Checked.{Stated, statedTotals, acceptance, refusal, numberFor, typeFor}
+use Rattle.judging.specs.Judged.{Tried, figuresTried, Stated, statedTotals, acceptance}
+use Rattle.checker.specs.Checked.{refusal}
 
 pub data InTable (file : List ℕ) : List ℕ → Type 0 where
   accepted : (r : Quarter) → InTable file (acceptance r)
   -- 1 to 10, 43, 47 and 49: the file or a line, the lines before it being right
   ofLines : (number line : ℕ) → RefusedBy file number line → InTable file (refusal number line)
   -- 11 to 14: a figure, on a line of its type
-  ofFigure : (q : Quantity) (line : ℕ) → HasRecord file (typeFor q) line → InTable file (refusal (numberFor q) line)
+  ofFigure : (t : Tried) (line : ℕ) → List·Memᴰ t figuresTried → HasRecord file (t .type) line → InTable file (refusal (t .number) line)
   -- 21 to 24 and 48: a total, on line 301
   ofTotal : (t : Stated) (line : ℕ) → List·Memᴰ t statedTotals → HasRecord file QuarterTotals line → InTable file (refusal (t .number) line)
 

@@ -8,7 +8,8 @@ use borrow.Author.Tests.{lt-ltb, le-ltb, eq-eqb, ne-eqb}
 use Rattle.layout.specs.Layout.{stackWidth}
 use Rattle.totals.specs.declared.Quarter.{Quarter}
 use Rattle.reading.specs.declared.Refusal.{Refusal}
-use Rattle.checker.specs.Checked.{acceptance, refusal, checked}
+use Rattle.judging.specs.Judged.{acceptance}
+use Rattle.checker.specs.Checked.{refusal, checked}
 use Rattle.checker.specs.declared.Answer.the-variants.{Accepted, Refused}
 use Rattle.writer.specs.Written.{writtenNumber, answered, buffered}
 use Rattle.edr_c.specs.Boundary.{filled, answerLength, checkCode, checkFilled, writeCode, writeFilled}

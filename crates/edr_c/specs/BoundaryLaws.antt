@@ -3,7 +3,7 @@ use Prim.Native.Nat.{ℕ}
 use mathlib.Core.Path.{_≡_, refl}
 use mathlib.Core.List.{List}
 use Rattle.totals.specs.declared.Quarter.{Quarter}
-use Rattle.checker.specs.Checked.{acceptance}
+use Rattle.judging.specs.Judged.{acceptance}
 use Rattle.annual.specs.Joined.{yearNumbers}
 use Rattle.annual.specs.declared.YearToDate.{YearToDate}
 use Rattle.annual.specs.declared.Joined.the-variants.{Record}

@@ -1,12 +1,12 @@
 -- What a fault tells of clauses, and that the number of the first clause that fails is determined. Clauses.antt has the words.
-use Prim.Native.Nat.{ℕ, zero, suc}
+use Prim.Native.Nat.{ℕ, zero, suc, _≤_, _<_}
 use mathlib.Core.Path.{_≡_, refl, sym, _∙_}
 use mathlib.Core.Logic.{_⊎_, inl, inr, ⊎-elim}
-use mathlib.Core.List.{List, [], _∷_, _++_}
+use mathlib.Core.List.{List, [], _∷_, _++_, List·Memᴰ, List·Memᴰ·head, List·Memᴰ·tail}
 use mathlib.Core.Bool.{Bool, true, false, _&&_, false≢true}
 use native.Mathlib.Omega.{arith}
-use Rattle.exact.specs.Faults.{_orElse_, unless}
-use Rattle.exact.specs.Clauses.{Clause, clause, Hold, FirstFails, when}
+use Rattle.exact.specs.Faults.{_orElse_, unless, firstFailing}
+use Rattle.exact.specs.Clauses.{Clause, clause, rowClauses, Hold, FirstFails, when}
 
 -- clauses that hold have no first that fails, and there is one number of it
 pub hold-none : (cs : List Clause) (n : ℕ) → Hold cs → FirstFails cs n → ⊥
@@ -103,6 +103,11 @@ pub told-wrong : (f : ℕ) (cs : List Clause) → Told f cs → (f ≡ 0 → ⊥
 told-wrong zero cs x n = absurd (n refl)
 told-wrong (suc c) cs x n = x .wrong c refl
 
+-- where all hold there is no fault
+pub told-none : (f : ℕ) (cs : List Clause) → Told f cs → Hold cs → f ≡ 0
+told-none zero cs x h = refl
+told-none (suc c) cs x h = absurd (hold-none cs (suc c) h (x .wrong c refl))
+
 -- where one fails, a fault that tells of clauses is a number, that of the first
 pub told-first : (f n : ℕ) (cs : List Clause) → Told f cs → FirstFails cs n → (c : ℕ) × (f ≡ suc c) × (suc c ≡ n)
 told-first zero n cs x g = absurd (hold-none cs n (x .right refl) g)
@@ -116,3 +121,51 @@ Numbered P (c ∷ cs) = P (c .number) × Numbered P cs
 pub first-among : (P : ℕ → Type 0) (cs : List Clause) (n : ℕ) → Numbered P cs → FirstFails cs n → P n
 first-among P [] n a f = absurd f
 first-among P (c ∷ cs) n a f = ⊎-elim (λ x. rw (x .0) (a .0)) (λ x. first-among P cs n (a .1) (x .1)) f
+
+-- the numbers of the clauses rise, from above a number
+abbrev pub Rise : ℕ → List Clause → Type 0
+Rise least [] = Unit {0}
+Rise least (c ∷ cs) = (least < c .number) × Rise (c .number) cs
+
+-- then each clause is told by its number from the first that fails: that one does not hold, and those with a lesser number do
+abbrev pub Apart : ℕ → List Clause → Type 0
+Apart n [] = Unit {0}
+Apart n (c ∷ cs) = ((c .number ≡ n → c .holds → ⊥) × (c .number < n → c .holds)) × Apart n cs
+
+rise-over : (n least : ℕ) (cs : List Clause) → n ≤ least → Rise least cs → Numbered (λ m. n < m) cs
+rise-over n least [] l r = tt
+rise-over n least (c ∷ cs) l r = (omega (arith, r .0), rise-over n (c .number) cs (omega (arith, r .0)) (r .1))
+
+over-apart : (n : ℕ) (cs : List Clause) → Numbered (λ m. n < m) cs → Apart n cs
+over-apart n [] a = tt
+over-apart n (c ∷ cs) a = (((λ e. absurd (omega (arith, a .0))), (λ l. absurd (omega (arith, a .0)))), over-apart n cs (a .1))
+
+pub first-apart : (n least : ℕ) (cs : List Clause) → Rise least cs → FirstFails cs n → Apart n cs
+first-apart n least [] r f = absurd f
+first-apart n least (c ∷ cs) r f =
+    ⊎-elim
+    (λ x. (((λ e. x .1), (λ l. absurd (omega (arith, x .0)))), over-apart n cs (rise-over n (c .number) cs (omega (arith, x .0)) (r .1))))
+    (λ x.
+    let above : c .number < n = first-among (λ m. c .number < m) cs n (rise-over (c .number) (c .number) cs (omega arith) (r .1)) (x .1) in
+    (((λ e. absurd (omega (arith, e))), (λ l. x .0)), first-apart n (c .number) cs (r .1) (x .1)))
+    f
+
+-- rows: the first that fails a test tells of what the test decides
+module _ {A : Type 0} (number : A → ℕ) (holds : A → Type 0) where
+  row-told : (b : Bool) (n : ℕ) (P : Type 0) → 0 < n → (b ≡ true → P) → (P → b ≡ true) → Told (unless b n) (clause n P ∷ [])
+  row-told b zero P l f g = absurd (omega arith)
+  row-told b (suc n) P l f g = told-one b n P f g
+
+  pub told-rows : (passes : A → Bool) → ((x : A) → passes x ≡ true → holds x) → ((x : A) → holds x → passes x ≡ true) →
+      (xs : List A) → Numbered (λ n. 0 < n) (rowClauses number holds xs) → Told (firstFailing passes number xs) (rowClauses number holds xs)
+  unfolding firstFailing
+  told-rows passes there back [] a = record { right = λ e. tt; wrong = λ c e. absurd (omega arith) }
+  told-rows passes there back (x ∷ xs) a =
+      told-or _ _ (clause (number x) _ ∷ []) (rowClauses number holds xs) (row-told (passes x) (number x) _ (a .0) (there x) (back x))
+      (told-rows passes there back xs (a .1))
+
+  -- the clause that fails first is a row's
+  pub first-row : (xs : List A) (n : ℕ) → FirstFails (rowClauses number holds xs) n → (x : A) × List·Memᴰ x xs × (number x ≡ n)
+  first-row [] n f = absurd f
+  first-row (x ∷ xs) n f =
+      ⊎-elim (λ y. (x, List·Memᴰ·head refl, sym (y .0))) (λ y. let r = first-row xs n (y .1) in (r .0, List·Memᴰ·tail (r .1), r .2)) f

@@ -11,6 +11,11 @@ pub record Clause : Type 1 where
 abbrev pub clause : ℕ → Type 0 → Clause
 clause number holds = record { number = number; holds = holds }
 
+-- what each of some rows says, with its number
+abbrev pub rowClauses : {A : Type 0} → (A → ℕ) → (A → Type 0) → List A → List Clause
+rowClauses number holds [] = []
+rowClauses number holds (x ∷ xs) = clause (number x) (holds x) ∷ rowClauses number holds xs
+
 -- they all hold
 abbrev pub Hold : List Clause → Type 0
 Hold [] = Unit {0}

@@ -1,7 +1,8 @@
--- A fault is a number, 0 where there is none: the first of several, and a test that gives one.
+-- A fault is a number, 0 where there is none: the first of several, a test that gives one, and the first of a table of tests.
 use Prim.Native.Nat.{ℕ, zero, suc, _≤_}
 use mathlib.Core.Path.{_≡_, refl}
 use mathlib.Core.Bool.{Bool, true, false, cond}
+use mathlib.Core.List.{List, [], _∷_}
 use native.Mathlib.Omega.{arith}
 
 infixr 40 _orElse_
@@ -13,6 +14,11 @@ suc a orElse b = suc a
 -- a test's number where it fails
 abbrev pub unless : Bool → ℕ → ℕ
 unless holds number = cond holds 0 number
+
+-- the first of some rows that fails a test, by its number; 0 where all pass
+unfoldable pub firstFailing : {A : Type 0} → (A → Bool) → (A → ℕ) → List A → ℕ
+firstFailing passes number [] = 0
+firstFailing passes number (x ∷ xs) = unless (passes x) (number x) orElse firstFailing passes number xs
 
 pub or-first : (a b : ℕ) → (a ≡ 0 → ⊥) → a orElse b ≡ a
 or-first zero b h = absurd (h refl)

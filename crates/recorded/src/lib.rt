@@ -3,6 +3,7 @@ use formulas::hour::Figures;
 use formulas::hour::Hour;
 use formulas::hour::Readings;
 use layout::RecordType;
+use layout::Run;
 use layout::Shape;
 use layout::values;
 use totals::Quarter;
@@ -12,7 +13,7 @@ ghost use lib.ListN.{length};
 ghost use Rattle.columns.specs.Number.{numberOf};
 ghost use Rattle.layout.specs.Layout.{valueCount, valueAt, countOf};
 ghost use Rattle.lines.specs.LineFaults.{fieldIn, hasGas};
-ghost use Rattle.reading.specs.Recorded.{hourAt, totalsIn};
+ghost use Rattle.reading.specs.Recorded.{recordsOf, hourAt, totalsIn};
 ghost use Rattle.reading.specs.Places.{lineAt, Standing, operatingFrom, operatingPlace, Stands};
 ghost use Rattle.recorded.specs.ListedHours.{listedHour};
 
@@ -55,6 +56,33 @@ pub fn operating_from(file: &[u8], s: Shape, p: usize) -> ListedHour
         place += 1;
     }
     ListedHour { place, time: 0 }
+}
+
+// The place of the 300 line of operating hour k, from 0, of a file of a shape whose lines are right.
+fn operating_place(file: &[u8], s: Shape, k: usize) -> usize
+    requires { ⌜ Standing (now file) s × (k < s .hours) ⌝ }
+    ensures { λ r. ⌜ Stands (now (file .entry)) s RecordType.Operation k r ⌝ }
+{
+    let mut j: usize = 0;
+    let mut from: usize = 0;
+    while j < k {
+        from = operating_from(file, s, from).place + 1;
+        j += 1;
+    }
+    operating_from(file, s, from).place
+}
+
+// The place of the record of rank k, from 0, in its type's run: of the 300 lines some are no records, every other line is one.
+pub fn place_of(file: &[u8], s: Shape, t: RecordType, k: usize) -> usize
+    requires { ⌜ Standing (now file) s × (k < length (recordsOf (now file) t)) ⌝ }
+    ensures { λ r. ⌜ Stands (now (file .entry)) s t k r ⌝ }
+{
+    let run = layout::row_of(t).run;
+    match run {
+        Run::Once => k,
+        Run::Hourly => k,
+        Run::Listed => operating_place(file, s, k),
+    }
 }
 
 // Operating hour k, from 0, of a file of a shape whose lines are right; `at` is its 300 line.

@@ -3,10 +3,10 @@ use mathlib.Core.Path.{_≡_, sym, ap, _∙_}
 use mathlib.Core.List.{List}
 use Prim.Native.Nat.{ℕ}
 use Rattle.reading.specs.Reading.{readOf}
-use Rattle.reading.specs.CleanFile.{clean-file, clean-hour}
 use Rattle.reading.specs.RightFileLaws.{read-right}
 use Rattle.reading.specs.declared.Reading.the-variants.{Clean}
 use Rattle.checker.specs.Checked.{afterReading, checked}
+use Rattle.checker.specs.JudgingLaws.{right-judgeable}
 use Rattle.checker.specs.Promise.{Promise}
 use Rattle.checker.specs.PromiseLaws.{promise}
 use Rattle.checker.specs.declared.Answer.{Answer}
@@ -40,10 +40,7 @@ enum-known-reading-2 : tie.Need-enum-known-reading-2
 enum-known-reading-2 c = search needs
 
 judge-requires : tie.Need-judge-requires
-judge-requires c κs =
-    let l = file (clean (c .before)) in
-    let f = clean-file l _ (read-right l _ (said (c .before))) in
-    record { standing = f .standing; within = clean-hour l _ f }
+judge-requires c κs = let l = file (clean (c .before)) in right-judgeable l _ (read-right l _ (said (c .before)))
 
 returns : tie.Need-returns
 unfolding afterReading checked

@@ -1,305 +1,58 @@
--- What is left to judge from each hour, and from each figure of it, is what is left of the whole.
-use Prim.Native.Nat.{ℕ, _+_, _-_, _<_}
+-- The verdict as an answer. A failure names a record that there is.
+use Prim.Native.Nat.{ℕ}
 use mathlib.Core.Path.{_≡_, sym, ap, _∙_}
-use mathlib.Core.Bool.{true, false}
 use mathlib.Core.List.{List}
-use mathlib.Core.Logic.{⊎-elim}
-use native.Mathlib.Omega.{arith}
-use borrow.Author.Tests.{not-true, not-false}
-use Rattle.layout.specs.declared.RecordType.the-variants.{Operation}
-use Rattle.layout.specs.declared.Shape.{Shape}
-use Rattle.formulas.specs.Hour.{HourWithin}
-use Rattle.formulas.specs.Formulas.{passesTest}
-use Rattle.totals.specs.declared.Totals.{Totals}
-use Rattle.reading.specs.Places.{Stands, operatingPlace}
-use Rattle.reading.specs.RankLaws.{ahead-first, ahead-some, ahead-stands}
-use Rattle.recorded.specs.ListedHours.{listedHour}
-use Rattle.recorded.specs.declared.ListedHour.{ListedHour}
-use Rattle.reading.specs.declared.Refusal.{Refusal}
-use Rattle.checker.specs.Checked.{quantityAt}
-use Rattle.checker.specs.Judging.{Judgeable}
-use Rattle.checker.specs.declared.Answer.the-variants.{Refused}
-use Rattle.checker.proofs.Pass.{figure-line, place-most, left-first, left-hour, figure-passed, figure-failed, totals-first}
-use Rattle.checker.proofs.Pass.{pass-next, pass-end, HourPass, FigurePass}
+use Rattle.judging.specs.declared.Verdict.the-variants.{Refused as Failed}
+use Rattle.checker.specs.Checked.{refusedAt, answerOf, verdictOn, judged}
+use Rattle.checker.specs.JudgingLaws.{failure-record}
+use borrow.Author.Needs.{needs}
 use Rattle.checker.proofs.judge.Statement.{statement}
 use Rattle.checker.proofs.judge.Tie as tie
 
-abbrev Inv-loop : tie.InvT-loop
-Inv-loop file s hours totals k from at hour j₀ j = FigurePass file s k hour j
+abbrev start : tie.After-verdict → tie.Start
+start c = c .before .before
 
-abbrev μ-loop : tie.MeasureT-loop
-μ-loop file s hours totals k from at hour j₀ j = 4 - j
+abbrev file : tie.After-verdict → List ℕ
+file c = start c .args .file .now
 
-abbrev Inv-hours : tie.InvT-hours
-Inv-hours file s hours totals₀ k₀ from₀ totals k from = HourPass file s totals k from
+-- what the match on the verdict tells
+abbrev accepted : tie.After-said → tie.After-verdict
+accepted c = c .before .before
 
-abbrev μ-hours : tie.MeasureT-hours
-μ-hours file s hours totals₀ k₀ from₀ totals k from = s .hours - k
+abbrev refused : tie.After-said2 → tie.After-verdict
+refused c = c .before .before
 
-abbrev Hours : Type 0
-Hours = tie.At-hours Inv-loop μ-loop Inv-hours μ-hours
+failed : (c : tie.After-said2) → verdictOn (file (refused c)) ≡ Failed (c .said2 .given .0 .0)
+failed c = sym (refused c .verdict .ensures) ∙ c .said2 .given .1
 
--- where the loop over the hours stands
-abbrev start : Hours → tie.Start Inv-loop μ-loop Inv-hours μ-hours
-start c = c .before .before .before
+verdict-requires : tie.Need-verdict-requires
+verdict-requires c κs = search needs
 
-module _ (c : Hours) where
-  abbrev file : List ℕ
-  file = start c .args .file .now
+enum-known-said : tie.Need-enum-known-said
+enum-known-said c = search needs
 
-  abbrev shape : Shape
-  shape = start c .args .s
+enum-known-said-2 : tie.Need-enum-known-said-2
+enum-known-said-2 c = search needs
 
-  abbrev judgeable : Judgeable file shape
-  judgeable = start c .pre
+failure-line-requires : tie.Need-failure-line-requires
+failure-line-requires c κs =
+    let m = c .before in
+    let x = start (refused m) in
+    (x .pre .standing, failure-record (x .args .file .now) (x .args .s) (x .pre) _ _ (failed m))
 
--- the place of its 300 line was found, and the hour was read
-abbrev next : tie.After-operating-from Inv-loop μ-loop Inv-hours μ-hours → Hours
-next c = c .before .before
-
-abbrev placed : tie.After-hour Inv-loop μ-loop Inv-hours μ-hours → tie.After-operating-from Inv-loop μ-loop Inv-hours μ-hours
-placed c = c .before
-
-abbrev standing : tie.After-hour Inv-loop μ-loop Inv-hours μ-hours → Hours
-standing c = next (placed c)
-
-more : (c : tie.After-operating-from Inv-loop μ-loop Inv-hours μ-hours) → next c .hours .k < shape (next c) .hours
-more c = let p = next c .hours .inv .few in omega (arith, c .before .if1 .left)
-
-abbrev placeOf : tie.After-operating-from Inv-loop μ-loop Inv-hours μ-hours → ℕ
-placeOf c = c .operating-from .result .place
-
-there : (c : tie.After-operating-from Inv-loop μ-loop Inv-hours μ-hours) →
-    placeOf c ≡ operatingPlace (file (next c)) (shape (next c)) (next c .hours .from)
-there c = ap (λ (at : ListedHour). at .place) (c .operating-from .ensures)
-
-stands : (c : tie.After-operating-from Inv-loop μ-loop Inv-hours μ-hours) → Stands (file (next c)) (shape (next c)) Operation (next c .hours .k) (placeOf c)
-stands c =
-    let o = next c in
-    ahead-stands (file o) (shape o) (judgeable o .standing) (o .hours .k) (o .hours .from) (o .hours .inv .ahead) (more c) (placeOf c) (there c)
-
-below : (c : tie.After-hour Inv-loop μ-loop Inv-hours μ-hours) → standing c .hours .k < shape (standing c) .hours
-below c = more (placed c)
-
-within : (c : tie.After-hour Inv-loop μ-loop Inv-hours μ-hours) → HourWithin (c .hour .result)
-within c = rw (c .hour .ensures) (judgeable (standing c) .within (standing c .hours .k) (below c))
-
--- a figure of it is looked at
-abbrev figure : tie.After-quantity-at Inv-loop μ-loop Inv-hours μ-hours → tie.At-loop Inv-loop μ-loop Inv-hours μ-hours
-figure c = c .before .before
-
-abbrev passed : tie.After-figure-passes Inv-loop μ-loop Inv-hours μ-hours → tie.After-quantity-at Inv-loop μ-loop Inv-hours μ-hours
-passed c = c .before
-
-abbrev hourOf : tie.At-loop Inv-loop μ-loop Inv-hours μ-hours → tie.After-hour Inv-loop μ-loop Inv-hours μ-hours
-hourOf c = c .before
-
--- all its figures passed, and it was added
-abbrev added : tie.After-with-hour Inv-loop μ-loop Inv-hours μ-hours → tie.At-loop Inv-loop μ-loop Inv-hours μ-hours
-added c = c .before .before
-
-none-requires : tie.Need-none-requires Inv-loop μ-loop Inv-hours μ-hours
-none-requires c κs = tt
-
-hours-holds : tie.Need-hours-holds Inv-loop μ-loop Inv-hours μ-hours
-hours-holds c =
-    let x = c .before .before in
-    let e = c .none .ensures .0 in
-    let d = x .pre .standing in
-    record {
-      few = omega arith;
-      ahead = ahead-first (x .args .file .now) (x .args .s) d;
-      room = c .none .ensures .1;
-      count = ap (λ (t : Totals). t .hours) e;
-      sums = rw e (totals-first (x .args .file .now) (x .args .s) d);
-      rest = left-first (x .args .file .now) (x .args .s) d;
-    }
-
-operating-from-requires : tie.Need-operating-from-requires Inv-loop μ-loop Inv-hours μ-hours
-operating-from-requires c κs =
-    let o = c .before in
-    let d = judgeable o .standing in
-    (d, ahead-some (file o) (shape o) d (o .hours .k) (o .hours .from) (o .hours .inv .ahead) (omega (arith, o .hours .inv .few, c .if1 .left)))
-
-hour-requires : tie.Need-hour-requires Inv-loop μ-loop Inv-hours μ-hours
-hour-requires c κs =
-    let o = next c in
-    (judgeable o .standing, more c, stands c, c .operating-from .ensures ∙ ap (listedHour (file o) (shape o)) (sym (there c)))
-
-loop-holds : tie.Need-loop-holds Inv-loop μ-loop Inv-hours μ-hours
-loop-holds c =
-    let o = standing c in
-    let l = rw (← c .hour .ensures) at (left-hour (file o) (shape o) (o .hours .k) (below c)) in
-    record { few = omega arith; rest = l ∙ o .hours .inv .rest }
-
-quantity-at-requires : tie.Need-quantity-at-requires Inv-loop μ-loop Inv-hours μ-hours
-quantity-at-requires c κs = tt
-
-figure-passes-requires : tie.Need-figure-passes-requires Inv-loop μ-loop Inv-hours μ-hours
-figure-passes-requires c κs = within (hourOf (figure c))
-
-add-t17 : tie.Need-add-t17 Inv-loop μ-loop Inv-hours μ-hours
-add-t17 c = omega arith
-
-type-for-requires : tie.Need-type-for-requires Inv-loop μ-loop Inv-hours μ-hours
-type-for-requires c κs = tt
-
-place-for-requires : tie.Need-place-for-requires Inv-loop μ-loop Inv-hours μ-hours
-place-for-requires c κs = tt
-
-line-of-requires : tie.Need-line-of-requires Inv-loop μ-loop Inv-hours μ-hours
-line-of-requires c κs =
-    let a = passed (c .before .before .before) in
-    let h = hourOf (figure a) in
-    let o = standing h in
-    let d = judgeable o .standing in (
-      d .held,
-      rw (c .place-for .ensures)
-          (place-most (file o) (shape o) d (a .quantity-at .result) (o .hours .k) (placeOf (placed h)) (below h) (stands (placed h))),
-    )
-
-add-j : tie.Need-add-j Inv-loop μ-loop Inv-hours μ-hours
-add-j c = omega arith
-
-loop-less : tie.Need-loop-less Inv-loop μ-loop Inv-hours μ-hours
-loop-less c = omega arith
-
-loop-again : tie.Need-loop-again Inv-loop μ-loop Inv-hours μ-hours
-loop-again c =
-    let g = c .before in
-    let a = passed g in
-    let f = figure a in
-    let h = hourOf f in
-    let o = standing h in
-    let l = f .loop in
-    let q = a .quantity-at .ensures in
-    let p : passesTest (quantityAt (l .j)) (h .hour .result) ≡ true =
-    rw q at (sym (g .figure-passes .ensures .test) ∙ not-false (g .figure-passes .result) (c .if2 .left)) in
-    record {
-      few = omega (arith, a .before .loop-test .taken);
-      rest = sym (figure-passed (file o) (shape o) (o .hours .k) (h .hour .result) (l .j) (a .before .loop-test .taken) p) ∙ l .inv .rest;
-    }
-
-with-hour-requires : tie.Need-with-hour-requires Inv-loop μ-loop Inv-hours μ-hours
-with-hour-requires c κs =
-    let h = hourOf (c .before) in
-    let i = standing h .hours .inv in
-    let w = within h in
-    (i .room, omega (arith, below h, i .count, judgeable (standing h) .standing .held .hours), w .figures, w .time .most)
-
-add-k : tie.Need-add-k Inv-loop μ-loop Inv-hours μ-hours
-add-k c = let h = hourOf (added c) in omega (arith, below h, judgeable (standing h) .standing .held .hours)
-
-add-from : tie.Need-add-from Inv-loop μ-loop Inv-hours μ-hours
-add-from c =
-    let h = hourOf (added (c .before)) in
-    omega (arith, stands (placed h) .inside, judgeable (standing h) .standing .held .operations)
-
-hours-less : tie.Need-hours-less Inv-loop μ-loop Inv-hours μ-hours
-hours-less c = omega (arith, below (hourOf (added (c .before))))
-
-hours-again : tie.Need-hours-again Inv-loop μ-loop Inv-hours μ-hours
-hours-again c =
-    let g = c .before in
-    let l = added g in
-    let h = hourOf l in
-    let o = standing h in
-    let t = g .with-hour in
-    pass-next (file o) (shape o) (judgeable o .standing) (o .hours .totals) (o .hours .k) (o .hours .from) _ (h .hour .result) (l .loop .j) (t .result)
-    (o .hours .inv) (below h) (there (placed h)) (h .hour .ensures) (t .ensures .0) (t .ensures .1) (l .loop .inv) (omega (arith, g .before .loop-test .left))
-
--- the pass was left, and the totals were formed
-abbrev ended : tie.After-struct-known2 Inv-loop μ-loop Inv-hours μ-hours → Hours
-ended c = c .before .before
-
-abbrev clean : tie.After-line-of2 Inv-loop μ-loop Inv-hours μ-hours → tie.Else3 Inv-loop μ-loop Inv-hours μ-hours
-clean c = c .before
-
-abbrev lined : tie.After-quarter Inv-loop μ-loop Inv-hours μ-hours → tie.After-line-of2 Inv-loop μ-loop Inv-hours μ-hours
-lined c = c .before
-
-abbrev formed : tie.After-totals Inv-loop μ-loop Inv-hours μ-hours → tie.After-quarter Inv-loop μ-loop Inv-hours μ-hours
-formed c = c .before
-
-returns : tie.Need-returns Inv-loop μ-loop Inv-hours μ-hours
+returns : tie.Need-returns
+unfolding judged
 returns c =
-    let o = ended (c .before) in
-    let h = o .hours in
-    ⊎-elim
-    (λ x. absurd (c .if3 .taken (ap (λ (y : Refusal). y .number) (x .1))))
-    (λ x.
-    let r = x .2 .result in
-    let l = x .3 in
-    let b : h .k < shape o .hours = omega (arith, h .inv .few, x .0 .left) in
-    let d = judgeable o .standing in
-    let own = ahead-stands (file o) (shape o) d (h .k) (h .from) (h .inv .ahead) b (x .1 .result .place)
-    (ap (λ (at : ListedHour). at .place) (x .1 .ensures)) in
-    let p : passesTest (quantityAt (l .j)) r ≡ false = rw (x .5 .ensures) at (sym (x .6 .ensures .test) ∙ not-true (x .6 .result) (x .7 .taken)) in
-    let at : ℕ → Refusal = λ line. record { number = 11 + l .j; line = line } in
-    ap Refused (x .11 ∙ rw (x .10 .ensures, x .9 .ensures, x .8 .ensures, x .5 .ensures)
-    (ap at (figure-line (file o) (shape o) d (quantityAt (l .j)) (h .k) (x .1 .result .place) b own)))
-    ∙ sym (figure-failed (file o) (shape o) (h .k) r (l .j) (x .4 .taken) p)
-    ∙ l .inv .rest)
-    (c .before .before .if1 .came)
+    let m = c .before in
+    let v = accepted m in
+    sym (ap (answerOf (file v)) (sym (v .verdict .ensures) ∙ m .said .given .1))
 
-line-of-requires-2 : tie.Need-line-of-requires-2 Inv-loop μ-loop Inv-hours μ-hours
-line-of-requires-2 c κs = (judgeable (ended (c .before)) .standing .held, omega arith)
-
-quarter-requires : tie.Need-quarter-requires Inv-loop μ-loop Inv-hours μ-hours
-quarter-requires c κs = ended (clean c .before) .hours .inv .room
-
-totals-requires : tie.Need-totals-requires Inv-loop μ-loop Inv-hours μ-hours
-totals-requires c κs = judgeable (ended (clean (lined c) .before)) .standing
-
-compare-requires : tie.Need-compare-requires Inv-loop μ-loop Inv-hours μ-hours
-compare-requires c κs = tt
-
-returns-2 : tie.Need-returns-2 Inv-loop μ-loop Inv-hours μ-hours
+returns-2 : tie.Need-returns-2
+unfolding judged
 returns-2 c =
-    let t = c .before in
-    let q = formed t in
-    let n = lined q in
-    let g = clean n .before in
-    let o = ended g in
-    let h = o .hours in
-    let d = judgeable o .standing in
-    ⊎-elim
-    (λ x.
-    c .compare .ensures
-    ∙ pass-end (file o) (shape o) (h .totals) (h .k) (h .from) d (h .inv) (x .0 .taken) (n .line-of2 .ensures) (q .quarter .ensures) (t .totals .ensures))
-    (λ x. absurd (let y = ap (λ (y : Refusal). y .number) (x .11) in omega (arith, clean n .if3 .left)))
-    (g .before .if1 .came)
+    let m = c .before .before in
+    let f = m .said2 .given .0 .0 in
+    ap (refusedAt (f .number)) (c .failure-line .ensures) ∙ sym (ap (answerOf (file (refused m))) (failed m))
 
 pub judge-spec : {M : Type 1} → statement M
-judge-spec =
-    tie.close
-    (tie.spec
-    Inv-loop
-    μ-loop
-    Inv-hours
-    μ-hours
-    none-requires
-    hours-holds
-    operating-from-requires
-    hour-requires
-    loop-holds
-    quantity-at-requires
-    figure-passes-requires
-    add-t17
-    type-for-requires
-    place-for-requires
-    line-of-requires
-    add-j
-    loop-less
-    loop-again
-    with-hour-requires
-    add-k
-    add-from
-    hours-less
-    hours-again
-    returns
-    line-of-requires-2
-    quarter-requires
-    totals-requires
-    compare-requires
-    returns-2)
+judge-spec = tie.close (tie.spec verdict-requires enum-known-said enum-known-said-2 failure-line-requires returns returns-2)

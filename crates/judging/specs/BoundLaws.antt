@@ -18,7 +18,7 @@ use Rattle.totals.specs.TotalLaws.{quarter-so2, quarter-co2, quarter-heat, quar
 use Rattle.formulas.specs.declared.hour.Hour.{Hour}
 use Rattle.formulas.specs.declared.hour.Quantity.{Quantity}
 use Rattle.formulas.specs.declared.hour.Quantity.the-variants.{Heat, So2, Nox, Co2}
-use Rattle.checker.specs.Promise.{LieBehind, exactShare, exactSum, exactAmount, reported, allowed}
+use Rattle.judging.specs.Behind.{LieBehind, exactShare, exactSum, exactAmount, reported, allowed}
 
 module _ (q : Quantity) where
   rate : (h : Hour) (e : Entry q) → HourWithin h → LiesBehind q h e → Rate (unitOf q)

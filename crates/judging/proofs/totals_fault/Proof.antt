@@ -3,10 +3,10 @@ use Prim.Native.Nat.{ℕ, zero, suc}
 use mathlib.Core.Path.{_≡_, refl, sym, ap, _∙_}
 use lib.ListN.{drop}
 use borrow.Author.Needs.{needs}
-use Rattle.exact.specs.Faults.{_orElse_, or-none}
-use Rattle.checker.specs.Checked.{statedTotals, firstDiffering}
-use Rattle.checker.proofs.totals_fault.Statement.{statement}
-use Rattle.checker.proofs.totals_fault.Tie as tie
+use Rattle.exact.specs.Faults.{_orElse_, firstFailing, or-none}
+use Rattle.judging.specs.Judged.{Stated, statedTotals, saidSame}
+use Rattle.judging.proofs.totals_fault.Statement.{statement}
+use Rattle.judging.proofs.totals_fault.Tie as tie
 
 -- a fault found and joined by the next total's, and what follows
 joined : (found own rest : ℕ) {fault : ℕ} → fault ≡ found orElse own → fault orElse rest ≡ found orElse (own orElse rest)
@@ -32,7 +32,7 @@ first-fault-requires-5 : tie.Need-first-fault-requires-5
 first-fault-requires-5 c κs = search needs
 
 returns : tie.Need-returns
-unfolding firstDiffering
+unfolding firstFailing
 returns c =
     let nox = c .before in
     let heat = nox .before in
@@ -40,7 +40,7 @@ returns c =
     let so2 = co2 .before in
     let f = so2 .before .args .formed in
     let s = so2 .before .args .stated in
-    let behind : ℕ → ℕ = λ n. firstDiffering (drop n statedTotals) f s in
+    let behind : ℕ → ℕ = λ n. firstFailing (saidSame f s) (λ (t : Stated). t .number) (drop n statedTotals) in
     sym (or-none (c .first-fault5 .result) 0 refl)
     ∙ joined (nox .first-fault4 .result) _ (behind 5) (c .first-fault5 .ensures)
     ∙ joined (heat .first-fault3 .result) _ (behind 4) (nox .first-fault4 .ensures)

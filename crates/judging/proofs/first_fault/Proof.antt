@@ -4,8 +4,8 @@ use mathlib.Core.Bool.{Bool}
 use Prim.Native.Nat.{ℕ}
 use borrow.Author.Tests.{eq-eqb, ne-eqb}
 use Rattle.exact.specs.Faults.{_orElse_, unless, or-first}
-use Rattle.checker.proofs.first_fault.Statement.{statement}
-use Rattle.checker.proofs.first_fault.Tie as tie
+use Rattle.judging.proofs.first_fault.Statement.{statement}
+use Rattle.judging.proofs.first_fault.Tie as tie
 
 returns : tie.Need-returns
 returns c = let a = c .before .args in sym (or-first (a .found) _ (c .if1 .taken))
