@@ -347,9 +347,9 @@ int expert_check(const u8 *f, size_t len, u64 *out) {
 #define LAST3(p) ((r64((p) + 40) >> 40) ^ 0x303030)
 #define NOFLOW(p) ((r64((p) + 37) >> 8 == 0x20202020202020u) & (LAST3(p) == 0x001010))
 #define WHOLE(p) (LAST3(p) == 0 || NOFLOW(p))
-    RUN("220", 48, 15, clear(MAX4(p + 9, p + 22, r + 9, r + 22)), I_7, 37, WHOLE(p) && WHOLE(r) && v0 <= 500000 && v1 <= 500000,
+    RUN("220", 48, 15, clear(MAX4(p + 9, p + 22, r + 9, r + 22)), I_7, 37, WHOLE(p) && WHOLE(r),
         h.flow[k] = v0;
-        h.flow[k + 1] = v1;, v = field(p + 38, 10, 0); if (v < 0) REFUSE(8, line); if (v > 500000000) REFUSE(9, line);
+        h.flow[k + 1] = v1;, v = field(p + 38, 10, 0); if (v < 0) REFUSE(8, line); if (v > 9999999000) REFUSE(9, line);
         if (v % 1000) REFUSE(43, line); h.flow[k] = v / 1000;)
     /* 300 */
     size_t ops = 0;
@@ -516,17 +516,17 @@ int expert_check(const u8 *f, size_t len, u64 *out) {
 #define PASS(a, b, c, d) ok = AND(ok, AND(GT(d, a), GT(b, c)))
             vec Cv = LD(h.co2 + k), F = LD(h.flow + k), H = LD(h.heat + k), R = LD(h.so2r + k), fc = LD(h.fc + k), Q = LD(h.co2r + k),
                 S = LD(h.so2 + k), X = LD(h.nox + k), V = LD(h.noxr + k), m = LD(h.time + k);
-            vec cl = LO(Cv), ch = HI(Cv), fl = LO(F), fh = HI(F), hl = LO(H), hh = HI(H), rl = LO(R), rh = HI(R), x = MUL(cl, fl),
-                y = MUL(ch, fh), f2 = ADD(fc, fc), w = MUL(C(2388), fc), xl = LO(X), xh = HI(X), vl = LO(V), vh = HI(V), ql = LO(Q),
+            vec cl = LO(Cv), ch = HI(Cv), fl = LO(F), fh = HI(F), hl = LO(H), hh = HI(H), rl = LO(R), rh = HI(R),
+                f2 = ADD(fc, fc), w = MUL(C(2388), fc), xl = LO(X), xh = HI(X), vl = LO(V), vh = HI(V), ql = LO(Q),
                 qh = HI(Q);
-            PASS(MUL(C(100), x), MUL(C(100), y), MUL(hl, f2), MUL(hh, f2));
+            PASS(MUL(MUL(C(100), cl), fl), MUL(MUL(C(100), ch), fh), MUL(hl, f2), MUL(hh, f2));
             vec gas = GT(S, C(0xfffffffe));
             S = AND(S, C(0x1ffff));
             vec sl = LO(S), sh = HI(S);
             PASS(SEL(gas, MUL(C(3), hl), MUL(MUL(C(166), sl), fl)), SEL(gas, MUL(C(3), hh), MUL(MUL(C(166), sh), fh)),
                  MUL(SEL(gas, C(5000), C(2000000)), rl), MUL(SEL(gas, C(5000), C(2000000)), rh));
             PASS(MUL(xl, w), MUL(xh, w), MUL(vl, MUL(C(1000000), cl)), MUL(vh, MUL(C(1000000), ch)));
-            PASS(MUL(C(57), x), MUL(C(57), y), MUL(C(200000), ql), MUL(C(200000), qh));
+            PASS(MUL(MUL(C(57), cl), fl), MUL(MUL(C(57), ch), fh), MUL(C(200000), ql), MUL(C(200000), qh));
             A = ADD(A, MUL(R, m));
             Bs = ADD(Bs, MUL(Q, m));
             G = ADD(G, MUL(H, m));

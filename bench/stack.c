@@ -1,7 +1,7 @@
-/* How many bytes of stack edr_write, edr_check and edr_year_to_date use on a full quarter, and edr_recorder_words on an hour; and
-   edr_check on a quarter that it refuses for a 220 line, which is then looked at test by test. Each is called on a stack that is filled
-   with one byte, and the lowest byte that has changed tells. Arguments, return addresses and what a function keeps below its stack
-   pointer count. */
+/* How many bytes of stack edr_write, edr_check and edr_year_to_date use on a full quarter, edr_convert on its sheet, and
+   edr_recorder_words on an hour; and edr_check on a quarter that it refuses for a 220 line, which is then looked at test by test. Each is
+   called on a stack that is filled with one byte, and the lowest byte that has changed tells. Arguments, return addresses and what a
+   function keeps below its stack pointer count. */
 #include <inttypes.h>
 #include <stdio.h>
 #include <string.h>
@@ -49,6 +49,12 @@ static void call_recorder_words(void)
     returned = edr_recorder_words(states, EDR_RECORDER_READINGS, readings, EDR_RECORDER_READINGS, words, EDR_RECORDER_ANSWER_LENGTH);
 }
 
+static void call_convert(void)
+{
+    top = __builtin_frame_address(0);
+    returned = edr_convert(sheet, WORDS);
+}
+
 static void measure(const char *name, void (*call)(void))
 {
     memset(stack, FILL, sizeof stack);
@@ -73,13 +79,14 @@ int main(void)
         hour_words[1] = edr_word(EDR_KIND_SO2, 2500);
         hour_words[2] = edr_word(EDR_KIND_NOX, 2000);
         hour_words[3] = edr_word(EDR_KIND_CO2, 120);
-        hour_words[4] = edr_word(EDR_KIND_FLOW, 20000000);
+        hour_words[4] = edr_word(EDR_KIND_FLOW, 20000);
         hour_words[5] = edr_word(EDR_KIND_FC, 18000);
     }
     measure("edr_write", call_write);
     measure("edr_check", call_check);
     measure("edr_year_to_date", call_year_to_date);
     measure("edr_recorder_words", call_recorder_words);
+    measure("edr_convert", call_convert);
     report[LENGTH / 2] = '\n';
     measure("edr_check, with a line too short,", call_check);
     return 0;

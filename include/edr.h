@@ -1,7 +1,7 @@
-/* The check and the writer of quarterly stack reports, the year to date, and hours from a recorder, for C99 and C++11. Link with
-   libedr_c.a, which `rt staticlib edr_c` writes to target/staticlib. Behind each pointer are as many elements as the length after it
-   says, and what a call writes to overlaps nothing else that it is lent; else every call takes anything. Header and library belong
-   together: the lengths below have grown, and may again. */
+/* The check and the writer of quarterly stack reports, the year to date, hours from a recorder, and sheets kept from before, for C99
+   and C++11. Link with libedr_c.a, which `rt staticlib edr_c` writes to target/staticlib. Behind each pointer are as many elements as
+   the length after it says, and what a call writes to overlaps nothing else that it is lent; else every call takes anything. Header
+   and library belong together: the lengths below have grown, and what a word counts has changed, and both may again. */
 #ifndef EDR_H
 #define EDR_H
 
@@ -86,7 +86,7 @@ enum edr_refusal {
 
     /* the writer, without a line */
     EDR_REFUSAL_SHEET = 31,            /* year, quarter, name, word count, a kind, or hours that do not rise or do not exist */
-    EDR_REFUSAL_SHEET_RANGE = 32,      /* a value outside its range, or a flow that is not a whole thousand */
+    EDR_REFUSAL_SHEET_RANGE = 32,      /* a value outside its range: a flow over 9,999,999 thousands, for one */
     EDR_REFUSAL_FIGURE_TOO_LARGE = 33, /* a figure too large for its columns */
     EDR_REFUSAL_BUFFER_TOO_SHORT = 34, /* room for less than EDR_REPORT_LENGTH(n) bytes */
 
@@ -100,7 +100,8 @@ enum edr_refusal {
     /* an hour from a recorder, without a line: the three are tried on SO2, then on NOx, CO2 and flow */
     EDR_REFUSAL_READING_ABSENT = 44,
     EDR_REFUSAL_READING_NEGATIVE_OR_NOT_FINITE = 45, /* minus zero counts as 0 */
-    EDR_REFUSAL_READING_RANGE = 46, /* recorded as SO2 or NOx over 9,999.9, CO2 0.0 or over 100.0, flow over 500,000,000 */
+    EDR_REFUSAL_READING_RANGE = 46, /* recorded as SO2 or NOx over 9,999.9, CO2 0.0 or over 100.0, flow over
+                                       9,999,999,000 */
 
     /* a 300 line of the file, tried in the place of heat input's EDR_REFUSAL_FORMAT */
     EDR_REFUSAL_IDLE_HEAT_NOT_BLANK = 47, /* time 0.00, and heat input that is not blank */
@@ -109,7 +110,10 @@ enum edr_refusal {
     EDR_REFUSAL_NOX_TOTAL = 48, /* NOx tons: the hours' NOx rate * heat input * time, added up, over 2,000 */
 
     /* a 310 line of the file, tried after EDR_REFUSAL_DATE_DIFFERS and before its value's EDR_REFUSAL_FORMAT */
-    EDR_REFUSAL_GAS = 49 /* GAS beside an SO2 reading on the 200 line of the same rank, or a blank reading there without GAS */
+    EDR_REFUSAL_GAS = 49, /* GAS beside an SO2 reading on the 200 line of the same rank, or a blank reading there without GAS */
+
+    /* a kept sheet, without a line, tried after EDR_REFUSAL_SHEET for its word count or a kind */
+    EDR_REFUSAL_OLD_FLOW = 50 /* a flow word, which has scfh there, that is not a whole thousand */
 };
 
 /* The kinds of a sheet's words, in the order in which an hour's words stand, and what their values count. */
@@ -118,7 +122,7 @@ enum edr_kind {
     EDR_KIND_SO2 = 1,  /* tenths of ppm */
     EDR_KIND_NOX = 2,  /* tenths of ppm */
     EDR_KIND_CO2 = 3,  /* tenths of percent */
-    EDR_KIND_FLOW = 4, /* scfh, whole thousands */
+    EDR_KIND_FLOW = 4, /* thousands of scfh; in a sheet kept from before, scfh: see edr_convert */
     EDR_KIND_FC = 5    /* tenths of scf/mmBtu */
 };
 
@@ -163,10 +167,17 @@ uint64_t edr_year_to_date(const uint64_t *previous, size_t previous_length, cons
 
 /* Makes the words of an hour from a recorder, as they stand in a sheet between the hour's and Fc's, and returns an
    edr_recorder_outcome. Each reading has an edr_reading_state and a double: SO2 and NOx in ppm and CO2 in percent, recorded in tenths;
-   flow in scfh, recorded to the nearest 1,000. The double's exact binary value is rounded half up: the double 0.15 lies below 0.15 and
+   flow in scfh, recorded in thousands. The double's exact binary value is rounded half up: the double 0.15 lies below 0.15 and
    is recorded as 0.1. Elements of the answer that are not filled keep their values. */
 uint64_t edr_recorder_words(const uint8_t *states, size_t states_length, const double *readings, size_t readings_length,
                             uint32_t *answer, size_t room);
+
+/* Makes a sheet kept from before, whose flow words have scfh, into one for edr_write: flow words count thousands, all other words stay.
+   Returns 0, or the number of the refusal, and then every word is as it was: EDR_REFUSAL_SHEET for a word count that is no whole hours
+   or over EDR_MOST_HOURS or for a kind unlike its place, and then EDR_REFUSAL_OLD_FLOW. No year, range or order of hours is looked at.
+   With flows of at most 500,000,000 scfh, edr_write returns for the converted sheet what it did for the kept one, byte for byte.
+   Convert a sheet only once, and keep the original: converted words pass for kept ones, 20,000,000 becomes 20,000 and then 20. */
+uint64_t edr_convert(uint32_t *sheet, size_t words);
 
 #ifdef __cplusplus
 }

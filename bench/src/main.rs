@@ -1,6 +1,7 @@
 //! In one run and with warm buffers: the proved check and an expert's check in C on several files; on a full quarter of 2,208 operating hours
-//! the second implementation and a plain pass over as many bytes too; and the proved writer, the second one and a plain copy. Before any is
-//! timed, their answers are compared. Where `bench/run` is given a library of another state, its check takes turns as well.
+//! the second implementation and a plain pass over as many bytes too; and the proved writer and the conversion of a kept sheet, each with the
+//! second one and a plain copy. Before any is timed, their answers are compared. Where `bench/run` is given a library of another state, its
+//! check takes turns as well.
 //!
 //! `bench check-only N` and `bench write-only N` only check or write N times, for a profiler.
 
@@ -10,10 +11,11 @@ mod race;
 use std::hint::black_box;
 use std::process::ExitCode;
 
-use edr::{Answer, Quarter, Written};
+use edr::{Answer, Converted, Quarter, Written};
+use second::conversion::convert;
 use second::generate::sheets;
 use second::random::Random;
-use second::write::Order;
+use second::write::{Form, Order};
 
 use files::{File, HOURS, QUARTER, YEAR};
 use race::{race, runner, ROUNDS};
@@ -101,9 +103,16 @@ fn race_checks(file: &[u8]) {
     print_times("check, full quarter", ["proved", "second", "adding up the bytes"], times);
 }
 
-/// A sheet of the quarter.
+/// A sheet of the quarter, as it was kept.
+fn kept_order() -> Order {
+    sheets::order_in(&mut Random::new(1), Form::First, YEAR, QUARTER, HOURS)
+}
+
+/// The same in the present form.
 fn order() -> Order {
-    sheets::order_in(&mut Random::new(1), YEAR, QUARTER, HOURS)
+    let mut order = kept_order();
+    convert(&mut order.words).expect("it converts");
+    order
 }
 
 fn proved_write(order: &Order, buffer: &mut [u8]) -> Written {
@@ -132,6 +141,26 @@ fn race_writers() {
     print_times("write, full quarter", ["proved", "second", "copying the bytes"], times);
 }
 
+/// Each copies the kept sheet, which a conversion changes in its place.
+fn race_conversions() {
+    let kept = &kept_order().words;
+    let [mut proved, mut second, mut plain] = [(); 3].map(|()| kept.clone());
+    assert_eq!(edr::convert(&mut proved), Converted::Done);
+    assert!(proved == order().words, "the conversions differ");
+    let times = race([
+        runner(|| {
+            proved.copy_from_slice(black_box(kept));
+            edr::convert(black_box(&mut proved))
+        }),
+        runner(|| {
+            second.copy_from_slice(black_box(kept));
+            convert(black_box(&mut second))
+        }),
+        runner(|| black_box(&mut plain).copy_from_slice(black_box(kept))),
+    ]);
+    print_times("convert, full sheet", ["proved", "second", "copying the words"], times);
+}
+
 fn race_all() {
     let files = files::all();
     files.iter().for_each(assert_answers);
@@ -139,6 +168,7 @@ fn race_all() {
     race_files(&files);
     race_checks(&files[0].bytes);
     race_writers();
+    race_conversions();
 }
 
 fn check_only(times: usize) {

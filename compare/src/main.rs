@@ -1,8 +1,9 @@
 //! Fresh cases of the second implementation's maker, sheets for all sizes of written numbers, quarters with every hour listed, gas hours
-//! at every edge, and reports with each byte of some lines changed, answered by the proved library and by the second implementation. Prints
-//! each case whose answers differ, and at the end how many cases there were and how many differ.
+//! at every edge, slices to convert, and reports with each byte of some lines changed, answered by the proved library and by the second
+//! implementation. Prints each case whose answers differ, and at the end how many cases there were and how many differ.
 
 mod changed_bytes;
+mod conversions;
 mod float_hours;
 mod gas_hours;
 mod idle_hours;
@@ -12,7 +13,9 @@ mod years;
 use std::fmt::Display;
 use std::process::ExitCode;
 
+use conversions::Lent;
 use second::cases::{Case, FILL};
+use second::conversion::convert;
 use second::generate;
 use second::write::Order;
 
@@ -33,11 +36,22 @@ impl Comparing {
         match case {
             Case::File(bytes) => checked(bytes),
             Case::Write { order, room } => self.written(order, *room),
+            Case::Convert { order, room } => self.converted(order, *room),
             Case::Patch(edits) => {
                 edits.iter().for_each(|&(offset, byte)| self.report[offset] = byte);
                 checked(&self.report)
             }
         }
+    }
+
+    /// Both conversions, with every word; and if the sheet converts, both writers as for any sheet.
+    fn converted(&mut self, order: &Order, room: usize) -> Answers {
+        let mut answers = conversions::converted(&Lent::sheet(&order.words));
+        let mut order = order.clone();
+        if convert(&mut order.words).is_ok() {
+            answers.add(self.written(&order, room));
+        }
+        answers
     }
 
     /// Both writers, with every byte of their buffers; and if there is a report, both checks of it. After a refusal the buffer has to
@@ -91,6 +105,7 @@ fn kind(case: &Case) -> &'static str {
     match case {
         Case::File(_) => "file",
         Case::Write { .. } => "sheet",
+        Case::Convert { .. } => "sheet of the first form",
         Case::Patch(_) => "changed report",
     }
 }
@@ -108,8 +123,11 @@ fn compare(seed: u64, count: usize) -> usize {
     let years = joinings.iter().map(|joining| ("year to date", years::joined(joining)));
     let changed = changed_bytes::files().map(|file| ("changed byte", checked(&file)));
     let recorders = hours.iter().map(|hour| ("recorder's hour", float_hours::recorded(hour)));
+    let slices = conversions::slices().map(|lent| ("slice to convert", conversions::converted(&lent)));
     let (mut count, mut differ) = (0, 0);
-    for (kind, Answers { proved, second }) in reports.chain(years).chain(recorders).chain(changed) {
+    for (kind, Answers { proved, second }) in
+        reports.chain(years).chain(recorders).chain(slices).chain(changed)
+    {
         if proved != second {
             differ += 1;
             println!("case {count}, {kind}: proved {proved}; second {second}");

@@ -16,9 +16,9 @@ use second::generate::tons::MOST_WRITTEN;
 use second::layout::{report_length, FLOW};
 use second::report::{nox_mass, place, Hour, NOX_TENTH};
 use second::rounding::span;
-use second::write::{write, Order, WORDS};
+use second::write::{write, Form, Order, WORDS};
 
-/// Beside these, any other reading may be anything in its range.
+/// Beside these, any other reading but flow may be anything in its range; flow, if CO2 is less.
 const MODEST: Readings = Readings { so2: Monitor(10), nox: 10, co2: 100, flow: 1_000, fc: 18_000 };
 
 /// The largest figures of heat, SO2 and CO2 at once.
@@ -26,7 +26,7 @@ const HEAVIEST: Readings =
     Readings { so2: Monitor(15_000), nox: 99_999, co2: 747, flow: 401_606, fc: 30_000 };
 
 /// A total that takes more hours is left to full quarters: one of the hours above, and one of those with the most NOx.
-const SOME_HOURS: usize = 200;
+const SOME_HOURS: usize = 205;
 
 /// The first and the last year; and quarters whose first or last hour has the least or the largest date of so many digits.
 const QUARTERS: [(u32, u32); 9] =
@@ -47,7 +47,7 @@ pub fn cases() -> Vec<Case> {
 }
 
 fn order(year: u32, quarter: u32, hours: impl IntoIterator<Item = Hour>) -> Order {
-    let words = hours.into_iter().flat_map(|hour| words_of(&hour)).collect();
+    let words = hours.into_iter().flat_map(|hour| words_of(Form::Present, &hour)).collect();
     Order { year, quarter, name: *b"STACK1", words }
 }
 
@@ -80,7 +80,7 @@ fn hour_with(name: Name, number: u128, rank: u32) -> Option<Hour> {
         Name::So2Ppm => Readings { so2: Monitor(number), ..MODEST },
         Name::NoxPpm => Readings { nox: number, ..MODEST },
         Name::Co2Percent => Readings { co2: number, ..MODEST },
-        Name::Flow => Readings { flow: number / FLOW.unit, ..MODEST },
+        Name::Flow => Readings { flow: number / FLOW.unit, co2: 10, ..MODEST },
         Name::Fc => Readings { fc: number, ..MODEST },
         Name::Heat => with_figure(Figure::Heat, number),
         Name::So2Rate => with_figure(Figure::So2, number),

@@ -12,7 +12,7 @@ static void damage(void)
 int main(void)
 {
     uint64_t answer[EDR_ANSWER_LENGTH];
-    if (!write_quarter(2004, 3, HOURS, 20000000)) {
+    if (!write_quarter(2004, 3, HOURS, 20000)) {
         return 1;
     }
     check_report(HOURS, answer);

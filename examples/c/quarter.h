@@ -4,7 +4,7 @@
 
 #include "report.h"
 
-/* Made-up readings of the hours, with flows from this one on, all whole thousands. */
+/* Made-up readings of the hours, with flows from this one on, in thousands of scfh. */
 static void fill_sheet(uint32_t hours, uint32_t flow)
 {
     for (uint32_t hour = 0; hour < hours; hour++) {
@@ -13,7 +13,7 @@ static void fill_sheet(uint32_t hours, uint32_t flow)
         words[1] = edr_word(EDR_KIND_SO2, 2000 + hour % 1000);
         words[2] = edr_word(EDR_KIND_NOX, 1500 + hour % 700);
         words[3] = edr_word(EDR_KIND_CO2, 100 + hour % 40);
-        words[4] = edr_word(EDR_KIND_FLOW, flow + 1000 * hour);
+        words[4] = edr_word(EDR_KIND_FLOW, flow + hour);
         words[5] = edr_word(EDR_KIND_FC, 18000);
     }
 }

@@ -6,7 +6,7 @@ enum { YEAR = 2004, QUARTERS = 4 };
 
 /* The hours of each quarter, which all operate, and their flows. */
 static const struct { uint32_t hours, flow; } made_up[QUARTERS] = {
-    {2184, 22000000}, {2184, 16000000}, {2208, 20000000}, {2208, 18000000}
+    {2184, 22000}, {2184, 16000}, {2208, 20000}, {2208, 18000}
 };
 
 /* Fills the record of a quarter, given that of the one before, and prints it. Returns whether all is accepted. */

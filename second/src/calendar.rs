@@ -1,5 +1,8 @@
 //! Gregorian dates of a quarter, and the hours of a quarter counted from 0.
 
+/// The most hours that a quarter has.
+pub const MOST_HOURS: u64 = 2_208;
+
 /// A date and hour, month and day counted from 1.
 #[derive(Clone, Copy, Debug, PartialEq, Eq, PartialOrd, Ord)]
 pub struct Moment {

@@ -5,15 +5,21 @@
 //! * `F`: a length and so many bytes: a file to check.
 //! * `W`: year, quarter, six bytes of name, room, a count and so many words: a
 //!   sheet to write into a buffer of `room` bytes, all of them 0xA5 before.
-//! * `P`: a count and so many pairs of an offset and one byte: changes to the
-//!   report of the last successful `W`, which stay until the next `W`; the
-//!   changed report is checked.
+//! * `C`: the same, but the sheet is of the first form, and is converted before it
+//!   is written.
+//! * `P`: a count and so many pairs of an offset and one byte: changes to the last
+//!   written report, which stay until the next one is written; the changed report
+//!   is checked.
 //!
 //! The answers: for `F` and `P` what the check says; for `W` `written`, the
 //! length and the Adler-32 sum of the whole buffer, and on a second line what
-//! the check says of the report, or `refused`, the number and the sum.
+//! the check says of the report, or `refused`, the number and the sum. For `C`
+//! there is a line before these: `words`, the number with which the conversion is
+//! refused or 0, and the same sum of all words after it, each taken as one number.
+//! After a refusal there it is the only line.
 
 use crate::check::check;
+use crate::conversion::convert;
 use crate::write::{write, Order};
 
 /// The byte with which a buffer is filled before the writer gets it.
@@ -24,11 +30,21 @@ pub const FILL: u8 = 0xA5;
 pub enum Case {
     File(Vec<u8>),
     Write { order: Order, room: usize },
+    Convert { order: Order, room: usize },
     Patch(Vec<(usize, u8)>),
 }
 
 fn put(number: usize, out: &mut Vec<u8>) {
     out.extend_from_slice(&(number as u32).to_le_bytes());
+}
+
+fn put_order(order: &Order, room: usize, out: &mut Vec<u8>) {
+    put(order.year as usize, out);
+    put(order.quarter as usize, out);
+    out.extend_from_slice(&order.name);
+    put(room, out);
+    put(order.words.len(), out);
+    order.words.iter().for_each(|&word| put(word as usize, out));
 }
 
 impl Case {
@@ -42,12 +58,11 @@ impl Case {
             }
             Case::Write { order, room } => {
                 out.push(b'W');
-                put(order.year as usize, out);
-                put(order.quarter as usize, out);
-                out.extend_from_slice(&order.name);
-                put(*room, out);
-                put(order.words.len(), out);
-                order.words.iter().for_each(|&word| put(word as usize, out));
+                put_order(order, *room, out);
+            }
+            Case::Convert { order, room } => {
+                out.push(b'C');
+                put_order(order, *room, out);
             }
             Case::Patch(edits) => {
                 out.push(b'P');
@@ -74,6 +89,17 @@ fn get(bytes: &mut &[u8]) -> Option<u32> {
     Some(u32::from_le_bytes(four.try_into().ok()?))
 }
 
+/// Takes what is asked of the writer and its room from the front.
+fn get_order(bytes: &mut &[u8]) -> Option<(Order, usize)> {
+    let year = get(bytes)?;
+    let quarter = get(bytes)?;
+    let name = take(bytes, 6)?.try_into().ok()?;
+    let room = get(bytes)? as usize;
+    let count = get(bytes)?;
+    let words = (0..count).map(|_| get(bytes)).collect::<Option<Vec<u32>>>()?;
+    Some((Order { year, quarter, name, words }, room))
+}
+
 /// Takes one case from the front.
 fn decode_one(bytes: &mut &[u8]) -> Option<Case> {
     match take(bytes, 1)?[0] {
@@ -82,13 +108,12 @@ fn decode_one(bytes: &mut &[u8]) -> Option<Case> {
             Some(Case::File(take(bytes, length)?.to_vec()))
         }
         b'W' => {
-            let year = get(bytes)?;
-            let quarter = get(bytes)?;
-            let name = take(bytes, 6)?.try_into().ok()?;
-            let room = get(bytes)? as usize;
-            let count = get(bytes)?;
-            let words = (0..count).map(|_| get(bytes)).collect::<Option<Vec<u32>>>()?;
-            Some(Case::Write { order: Order { year, quarter, name, words }, room })
+            let (order, room) = get_order(bytes)?;
+            Some(Case::Write { order, room })
+        }
+        b'C' => {
+            let (order, room) = get_order(bytes)?;
+            Some(Case::Convert { order, room })
         }
         b'P' => {
             let count = get(bytes)?;
@@ -110,9 +135,18 @@ pub fn decode(mut bytes: &[u8]) -> Option<Vec<Case>> {
 
 /// The Adler-32 sum.
 pub fn adler32(bytes: &[u8]) -> u32 {
+    sum_of(bytes.iter().map(|&byte| byte.into()))
+}
+
+/// The same sum of words, each taken as one number.
+pub fn sum_of_words(words: &[u32]) -> u32 {
+    sum_of(words.iter().map(|&word| word.into()))
+}
+
+fn sum_of(numbers: impl Iterator<Item = u64>) -> u32 {
     let (mut a, mut b) = (1u64, 0u64);
-    for &byte in bytes {
-        a = (a + u64::from(byte)) % 65_521;
+    for number in numbers {
+        a = (a + number) % 65_521;
         b = (b + a) % 65_521;
     }
     (b << 16 | a) as u32
@@ -125,23 +159,13 @@ pub struct Answering {
 }
 
 impl Answering {
-    /// The answer to the next case: one line, or two for a successful write.
+    /// The answer to the next case: one line, one more for a written report, and
+    /// one more for a converted sheet.
     pub fn answer(&mut self, case: &Case) -> Vec<String> {
         match case {
             Case::File(bytes) => vec![check(bytes).to_string()],
-            Case::Write { order, room } => {
-                let mut buffer = vec![FILL; *room];
-                let result = write(order, &mut buffer);
-                let sum = adler32(&buffer);
-                match result {
-                    Ok(length) => {
-                        buffer.truncate(length);
-                        self.report = buffer;
-                        vec![format!("written {length} {sum}"), check(&self.report).to_string()]
-                    }
-                    Err(number) => vec![format!("refused {number} {sum}")],
-                }
-            }
+            Case::Write { order, room } => self.written(order, *room),
+            Case::Convert { order, room } => self.converted(order.clone(), *room),
             Case::Patch(edits) => {
                 for &(offset, byte) in edits {
                     self.report[offset] = byte;
@@ -150,11 +174,44 @@ impl Answering {
             }
         }
     }
+
+    fn written(&mut self, order: &Order, room: usize) -> Vec<String> {
+        let mut buffer = vec![FILL; room];
+        let result = write(order, &mut buffer);
+        let sum = adler32(&buffer);
+        match result {
+            Ok(length) => {
+                buffer.truncate(length);
+                self.report = buffer;
+                vec![format!("written {length} {sum}"), check(&self.report).to_string()]
+            }
+            Err(number) => vec![format!("refused {number} {sum}")],
+        }
+    }
+
+    fn converted(&mut self, mut order: Order, room: usize) -> Vec<String> {
+        let result = convert(&mut order.words);
+        let sum = sum_of_words(&order.words);
+        match result {
+            Ok(()) => {
+                let mut lines = vec![format!("words 0 {sum}")];
+                lines.append(&mut self.written(&order, room));
+                lines
+            }
+            Err(number) => vec![format!("words {number} {sum}")],
+        }
+    }
+
+    /// The last written report, with the changes made to it since.
+    pub fn report(&self) -> &[u8] {
+        &self.report
+    }
 }
 
 #[cfg(test)]
 mod tests {
     use super::*;
+    use crate::write::word;
 
     #[test]
     fn known_sums() {
@@ -167,7 +224,8 @@ mod tests {
         let order = Order { year: 2005, quarter: 3, name: *b"STACK1", words: vec![1, u32::MAX] };
         let cases = vec![
             Case::File(b"100\n".to_vec()),
-            Case::Write { order, room: 77 },
+            Case::Write { order: order.clone(), room: 77 },
+            Case::Convert { order, room: 78 },
             Case::Patch(vec![(5, b'x'), (1_000_000, 10)]),
             Case::File(Vec::new()),
         ];
@@ -175,5 +233,26 @@ mod tests {
         cases.iter().for_each(|case| case.encode(&mut bytes));
         assert_eq!(decode(&bytes), Some(cases));
         assert_eq!(decode(&bytes[..bytes.len() - 1]), None);
+    }
+
+    #[test]
+    fn a_converted_sheet_is_answered_as_the_present_one() {
+        let hour = |flow| [50, 2_500, 2_000, 120, flow, 18_000];
+        let order = |flow| {
+            let words = hour(flow).iter().zip(0..).map(|(&value, kind)| word(kind, value)).collect();
+            Order { year: 2005, quarter: 3, name: *b"STACK1", words }
+        };
+        let answer = |case| Answering::default().answer(&case);
+        let sum = sum_of_words(&order(20_000).words);
+        let present = answer(Case::Write { order: order(20_000), room: 400 });
+        assert_eq!(present[1], "accepted 1 2 684 6667 358 1");
+        let first = answer(Case::Convert { order: order(20_000_000), room: 400 });
+        assert_eq!(first, [vec![format!("words 0 {sum}")], present].concat());
+        let short = answer(Case::Convert { order: order(20_000_000), room: 392 });
+        assert_eq!(short[0], first[0]);
+        assert!(short[1].starts_with("refused 34 ") && short.len() == 2);
+        let uneven = sum_of_words(&order(20_000_500).words);
+        let refused = answer(Case::Convert { order: order(20_000_500), room: 400 });
+        assert_eq!(refused, [format!("words 50 {uneven}")]);
     }
 }

@@ -392,13 +392,17 @@ mod tests {
         for flow in ["20,000,500", " 20000.500", "  2000050x", "500000001 "] {
             assert_eq!(answer_to(flow), "refused 8 5", "{flow}");
         }
-        for flow in [" 500000001", " 500001000", "9999999999"] {
+        for flow in ["9999999001", "9999999500", "9999999999"] {
             assert_eq!(answer_to(flow), "refused 9 5", "{flow}");
         }
-        for flow in ["  20000500", "0020000001", "       999", " 499999999"] {
+        for flow in
+            ["  20000500", "0020000001", "       999", " 499999999", " 500000001", "9999998001", "9999998999"]
+        {
             assert_eq!(answer_to(flow), "refused 43 5", "{flow}");
         }
-        assert_eq!(answer_to(" 500000000"), "refused 11 6");
+        for flow in [" 500000000", " 500001000", "9999999000"] {
+            assert_eq!(answer_to(flow), "refused 11 6", "{flow}");
+        }
     }
 
     /// Operating hours 1 and 3 on lines 11 and 13, idle hours 0, 2 and 4 on lines

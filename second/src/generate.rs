@@ -1,6 +1,7 @@
 //! The maker of test cases: all cases follow from a seed and a count.
 
 mod changes;
+mod conversions;
 mod damage;
 mod edges;
 mod files;
@@ -8,6 +9,7 @@ mod float_hours;
 mod flows;
 pub mod gas_hours;
 mod idle_hours;
+mod large_flows;
 pub mod page;
 mod quarters;
 pub mod recorder;
@@ -18,6 +20,7 @@ mod years;
 
 use crate::cases::Case;
 use crate::random::Random;
+use crate::write::Form;
 pub use float_hours::FloatHour;
 pub use years::Joining;
 
@@ -25,18 +28,26 @@ pub use years::Joining;
 type Family<T> = fn(&mut Random, usize) -> T;
 
 /// Where the random numbers of a recorder's hours, of files with idle hours, of
-/// files and sheets for NOx tons, and of files with gas hours start: no other case
-/// comes to so high a part.
+/// files and sheets for NOx tons, of files with gas hours, of files with large flows,
+/// of sheets to convert, and of sheets and quarters of the present form start: no
+/// other case comes to so high a part.
 const FLOAT_HOURS: u64 = 1 << 40;
 const IDLE_HOURS: u64 = 1 << 41;
 const TONS: u64 = 1 << 42;
 const SHEETS_FOR_TONS: u64 = 1 << 43;
 const GAS_HOURS: u64 = 1 << 44;
+const LARGE_FLOWS: u64 = 1 << 45;
+const CONVERSIONS: u64 = 1 << 46;
+const PRESENT_SHEETS: u64 = 1 << 47;
+const PRESENT_SMALL: u64 = 1 << 48;
+const PRESENT_FULL: u64 = 1 << 49;
 
-/// The cases of a seed: `count` files to check, a third as many sheets to write,
-/// written reports of all sizes with changes to each, a third as many files with
-/// idle hours, some files and sheets for NOx tons, and a fifth as many files with
-/// gas hours.
+/// The cases of a seed: `count` files to check, a third as many sheets of the first
+/// form to convert and write, reports of all sizes written from such sheets with
+/// changes to each, a third as many files with idle hours, some files and sheets for
+/// NOx tons, and a fifth as many files with gas hours; then a tenth as many files with
+/// large flows, an eighth as many sheets made for the conversion, a third as many
+/// sheets of the present form, and some reports written from such with changes.
 pub fn cases(seed: u64, count: usize) -> Vec<Case> {
     let mut cases = Vec::new();
     for number in 0..count {
@@ -45,7 +56,7 @@ pub fn cases(seed: u64, count: usize) -> Vec<Case> {
     }
     for number in 0..count.div_ceil(3) {
         let random = &mut Random::branch(seed, 4 * number as u64 + 1);
-        cases.push(sheets::sheet(random, number));
+        cases.push(sheets::sheet(random, Form::First, number));
     }
     let groups: [(usize, Family<Vec<Case>>); 3] =
         [(40, quarters::small), (85, quarters::middle), (170, quarters::full)];
@@ -70,6 +81,26 @@ pub fn cases(seed: u64, count: usize) -> Vec<Case> {
     for number in 0..count.div_ceil(5) {
         let random = &mut Random::branch(seed, GAS_HOURS + number as u64);
         cases.push(Case::File(gas_hours::file(random, number)));
+    }
+    for number in 0..count.div_ceil(10) {
+        let random = &mut Random::branch(seed, LARGE_FLOWS + number as u64);
+        cases.push(Case::File(large_flows::file(random, number)));
+    }
+    for number in 0..count.div_ceil(8) {
+        let random = &mut Random::branch(seed, CONVERSIONS + number as u64);
+        cases.push(conversions::sheet(random, number));
+    }
+    for number in 0..count.div_ceil(3) {
+        let random = &mut Random::branch(seed, PRESENT_SHEETS + number as u64);
+        cases.push(sheets::sheet(random, Form::Present, number));
+    }
+    let groups: [(usize, u64, Family<Vec<Case>>); 2] =
+        [(100, PRESENT_SMALL, quarters::present_small), (850, PRESENT_FULL, quarters::present_full)];
+    for (share, part, group) in groups {
+        for number in 0..count.div_ceil(share) {
+            let random = &mut Random::branch(seed, part + number as u64);
+            cases.extend(group(random, number));
+        }
     }
     cases
 }

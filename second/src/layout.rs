@@ -93,7 +93,7 @@ pub const GAS_COLUMNS: Columns = Columns(32, 3);
 pub const GAS_WORD: &[u8; 3] = b"GAS";
 
 /// Flow in scfh, recorded to the nearest thousand.
-pub const FLOW: Value = Value { unit: 1_000, ..ranged(39, 10, 0, 0, 500_000_000) };
+pub const FLOW: Value = Value { unit: 1_000, ..ranged(39, 10, 0, 0, 9_999_999_000) };
 
 /// The time of an operating hour. That of an idle hour is 0.
 pub const TIME: Value = ranged(18, 4, 2, 1, 100);
@@ -250,8 +250,8 @@ mod tests {
         for (number, recorded) in [(0, Some(0)), (1, None), (500, None), (999, None), (1_000, Some(1))] {
             assert_eq!(FLOW.recorded(number), recorded);
         }
-        assert_eq!(FLOW.recorded(500_000_000), Some(500_000));
-        assert!(FLOW.in_range(500_000_000) && !FLOW.in_range(500_000_001));
+        assert_eq!(FLOW.recorded(9_999_999_000), Some(9_999_999));
+        assert!(FLOW.in_range(500_000_001) && FLOW.in_range(9_999_999_000) && !FLOW.in_range(9_999_999_001));
         assert_eq!(R200.values[0].recorded(2_501), Some(2_501));
     }
 }

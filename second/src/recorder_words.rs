@@ -86,13 +86,13 @@ fn substituted(states: &[u8; READINGS]) -> u32 {
 fn words(states: &[u8; READINGS], readings: &[u64; READINGS]) -> Result<[u32; READINGS], u32> {
     let mut words = [0; READINGS];
     for (place, channel) in CHANNELS.iter().enumerate() {
-        let number = recorded(channel, states[place], readings[place])?;
-        words[place] = word(place as u32 + 1, number as u32);
+        let units = recorded(channel, states[place], readings[place])?;
+        words[place] = word(place as u32 + 1, units as u32);
     }
     Ok(words)
 }
 
-/// The number that a reading records as, or that of its refusal.
+/// The units that a reading records as, or the number of its refusal.
 fn recorded(channel: &Value, state: u8, pattern: u64) -> Result<u128, u32> {
     if state == ABSENT {
         return Err(44);
@@ -100,9 +100,9 @@ fn recorded(channel: &Value, state: u8, pattern: u64) -> Result<u128, u32> {
     let Some(pattern) = from_zero_up(pattern) else {
         return Err(45);
     };
-    let number = units(channel, pattern) * channel.unit;
-    if channel.in_range(number) {
-        Ok(number)
+    let units = units(channel, pattern);
+    if channel.in_range(units * channel.unit) {
+        Ok(units)
     } else {
         Err(46)
     }
@@ -203,7 +203,7 @@ mod tests {
 
     #[test]
     fn words_have_kinds_and_the_substituted_are_counted() {
-        let words = [word(1, 2_500), word(2, 2_000), word(3, 120), word(4, 20_000_000)];
+        let words = [word(1, 2_500), word(2, 2_000), word(3, 120), word(4, 20_000)];
         for mask in 0..16u32 {
             let states = [0, 1, 2, 3].map(|place| (mask >> place & 1) as u8);
             let expected = [&words[..], &[mask.count_ones()]].concat();
@@ -257,18 +257,25 @@ mod tests {
     #[test]
     fn flow_is_recorded_in_thousands() {
         for (number, value, below) in [
-            ("500", 1_000, 0),
-            ("1500", 2_000, 1_000),
-            ("12345499.9", 12_345_000, 12_345_000),
-            ("12345500", 12_346_000, 12_345_000),
-            ("499999500", 500_000_000, 499_999_000),
-            ("500000499.9", 500_000_000, 500_000_000),
+            ("500", 1, 0),
+            ("1500", 2, 1),
+            ("12345499.9", 12_345, 12_345),
+            ("12345500", 12_346, 12_345),
+            ("499999500", 500_000, 499_999),
+            ("500000499.9", 500_000, 500_000),
+            ("500000500", 500_001, 500_000),
+            ("536870912", 536_871, 536_871),
+            ("4294967296", 4_294_967, 4_294_967),
+            ("9999998500", 9_999_999, 9_999_998),
+            ("9999999499.9", 9_999_999, 9_999_999),
         ] {
             assert_eq!(value_of(FLOW, float(number)), Ok(value), "{number}");
             assert_eq!(value_of(FLOW, float(number) - 1), Ok(below), "{number}");
         }
-        assert_eq!(value_of(FLOW, float("500000500") - 1), Ok(500_000_000));
-        assert_eq!(value_of(FLOW, float("500000500")), Err(46));
+        assert_eq!(value_of(FLOW, float("9999999500") - 1), Ok(9_999_999));
+        for number in ["9999999500", "9999999999", "536870912000"] {
+            assert_eq!(value_of(FLOW, float(number)), Err(46), "{number}");
+        }
     }
 
     #[test]
@@ -304,7 +311,7 @@ mod tests {
 
     #[test]
     fn readings_are_refused_in_turn() {
-        let faults = [(ABSENT, INFINITY, 44), (MEASURED, float("-1"), 45), (SUBSTITUTED, float("1e9"), 46)];
+        let faults = [(ABSENT, INFINITY, 44), (MEASURED, float("-1"), 45), (SUBSTITUTED, float("1e10"), 46)];
         for first in 0..READINGS {
             for later in first..READINGS {
                 for (state, pattern, number) in faults {
@@ -404,6 +411,7 @@ mod tests {
             ["0", "-0", "0.05", "0"],
             ["9999.9", "9999.9", "100.05", "1499.9"],
             ["0.05", "1e-300", "12", "500000499.9"],
+            ["0.05", "0.1", "0.05", "9999999499.9"],
         ] {
             let answer = checked(ends.map(float));
             assert!(answer.starts_with("accepted 1 "), "{answer}");

@@ -2,11 +2,17 @@
 
 use crate::calendar::hours_in_quarter;
 use crate::figures::{Monitor, Readings, FIGURES};
-use crate::layout::{report_length, FLOW, R200, R201, R202, R220, R300, R310, R320, R330};
+use crate::layout::{report_length, FLOW, R200, R201, R202, R300, R310, R320, R330};
 use crate::report::{Hour, PlainPen, Report};
 
 /// Words of the sheet to an hour.
 pub const WORDS: usize = 6;
+
+/// The place of flow among an hour's words, which is its kind too.
+pub const FLOW_PLACE: usize = 4;
+
+/// The largest value of a word.
+pub const LARGEST_VALUE: u32 = 0x1FFF_FFFF;
 
 /// What is asked of the writer, apart from the buffer.
 #[derive(Clone, Debug, PartialEq, Eq)]
@@ -26,20 +32,60 @@ fn kind_of(word: u32) -> u32 {
     word >> 29
 }
 
-fn value_of(word: u32) -> u32 {
-    word & 0x1FFF_FFFF
+/// The value of a word.
+pub fn value_of(word: u32) -> u32 {
+    word & LARGEST_VALUE
+}
+
+/// The forms of sheets. They differ in their flow words alone.
+#[derive(Clone, Copy, Debug, PartialEq, Eq)]
+pub enum Form {
+    /// Flow counts scfh, and has the limit that it had then.
+    First,
+    /// Flow counts thousands of scfh, and has the limit of 220 lines.
+    Present,
+}
+
+impl Form {
+    /// What a flow word counts, in scfh.
+    pub fn flow_unit(self) -> u128 {
+        match self {
+            Form::First => 1,
+            Form::Present => FLOW.unit,
+        }
+    }
+
+    /// The largest flow, in scfh.
+    pub fn flow_limit(self) -> u128 {
+        match self {
+            Form::First => 500_000_000,
+            Form::Present => FLOW.limits().1,
+        }
+    }
+
+    /// The recorded flow of a flow word, or nothing if it is past the limit or no
+    /// whole thousand.
+    fn recorded_flow(self, word: u32) -> Option<u128> {
+        let scfh = u128::from(value_of(word)) * self.flow_unit();
+        FLOW.recorded(scfh).filter(|_| scfh <= self.flow_limit())
+    }
 }
 
 /// Writes the report at the start of the buffer and returns its length, or
 /// returns the number of the refusal and leaves the buffer alone.
 pub fn write(order: &Order, buffer: &mut [u8]) -> Result<usize, u32> {
+    write_from(Form::Present, order, buffer)
+}
+
+/// The same for a sheet of any form.
+pub(crate) fn write_from(form: Form, order: &Order, buffer: &mut [u8]) -> Result<usize, u32> {
     if !order_is_sound(order) {
         return Err(31);
     }
-    if !order.words.chunks(WORDS).all(in_range) {
+    let sound_hours = order.words.chunks(WORDS).map(|words| hour_of(form, words));
+    let Some(hours) = sound_hours.collect::<Option<Vec<Hour>>>() else {
         return Err(32);
-    }
-    let hours: Vec<Hour> = order.words.chunks(WORDS).map(hour_of).collect();
+    };
     if !hours.iter().all(figures_fit) {
         return Err(33);
     }
@@ -68,13 +114,18 @@ fn order_is_sound(order: &Order) -> bool {
     if order.name.iter().any(|byte| !(32..=126).contains(byte)) || order.name == [b' '; 6] {
         return false;
     }
-    if !order.words.len().is_multiple_of(WORDS) {
+    if !are_whole_hours(&order.words) {
         return false;
     }
-    let kinds_stand = order.words.iter().zip((0..WORDS as u32).cycle()).all(|(&w, kind)| kind_of(w) == kind);
     let hours: Vec<u32> = order.words.chunks(WORDS).map(|words| hour_and_time(words[0]).0).collect();
     let count = hours_in_quarter(order.year, order.quarter);
-    kinds_stand && hours.iter().all(|&hour| hour < count) && hours.windows(2).all(|pair| pair[0] < pair[1])
+    hours.iter().all(|&hour| hour < count) && hours.windows(2).all(|pair| pair[0] < pair[1])
+}
+
+/// Whether words are those of whole hours, each of the kind that its place asks for.
+pub(crate) fn are_whole_hours(words: &[u32]) -> bool {
+    let mut kinds = words.iter().zip((0..WORDS as u32).cycle());
+    words.len().is_multiple_of(WORDS) && kinds.all(|(&word, kind)| kind_of(word) == kind)
 }
 
 /// The hour of the quarter and the time in an hour's first word.
@@ -82,27 +133,21 @@ fn hour_and_time(word: u32) -> (u32, u32) {
     (value_of(word) / 128, value_of(word) % 128)
 }
 
-/// Whether all values of an hour's words are in their ranges, or, where there is
-/// none, fit into their columns; and are whole multiples of their units.
-fn in_range(words: &[u32]) -> bool {
-    let values = [&R300, &R200, &R201, &R202, &R220, &R320].map(|record| record.values[0]);
-    let (_, time) = hour_and_time(words[0]);
-    let numbers = [time].into_iter().chain(words[1..].iter().map(|&word| value_of(word)));
-    numbers.zip(values).all(|(number, value)| {
-        let number = u128::from(number);
-        value.in_range(number) && value.recorded(number).is_some()
-    })
-}
-
-/// One hour of a sheet whose values are in range, with the figures of its
-/// recorded readings.
-pub fn hour_of(words: &[u32]) -> Hour {
+/// One hour of a sheet, with the figures of its recorded readings; or nothing if
+/// a value is outside its range, or, where there is none, does not fit into its
+/// columns.
+pub fn hour_of(form: Form, words: &[u32]) -> Option<Hour> {
     let (hour_of_quarter, time) = hour_and_time(words[0]);
-    let value = |index: usize| u128::from(value_of(words[index]));
-    let flow = value(4) / FLOW.unit;
-    let readings = Readings { so2: Monitor(value(1)), nox: value(2), co2: value(3), flow, fc: value(5) };
+    let value = |place: usize| u128::from(value_of(words[place]));
+    let [time, so2, nox, co2, fc] = [time.into(), value(1), value(2), value(3), value(5)];
+    let numbers = [(&R300, time), (&R200, so2), (&R201, nox), (&R202, co2), (&R320, fc)];
+    if !numbers.iter().all(|(record, number)| record.values[0].in_range(*number)) {
+        return None;
+    }
+    let flow = form.recorded_flow(words[FLOW_PLACE])?;
+    let readings = Readings { so2: Monitor(so2), nox, co2, flow, fc };
     let figures = FIGURES.map(|figure| figure.of_recorded(&readings));
-    Hour { hour_of_quarter, time: time.into(), readings, figures }
+    Some(Hour { hour_of_quarter, time, readings, figures })
 }
 
 /// Whether all figures of the hour fit into their columns.
@@ -117,7 +162,7 @@ mod tests {
     use crate::check::check;
 
     fn example() -> Order {
-        let words = [50, 2_500, 2_000, 120, 20_000_000, 18_000];
+        let words = [50, 2_500, 2_000, 120, 20_000, 18_000];
         Order {
             year: 2005,
             quarter: 3,
@@ -149,29 +194,35 @@ mod tests {
     fn refusals_come_in_order() {
         let mut order = example();
         order.words[3] = word(3, 0);
-        order.words[4] = word(4, 500_000_000);
+        order.words[4] = word(4, 9_999_999);
         assert_eq!(write(&order, &mut []), Err(32));
         order.words[3] = word(3, 1_000);
         order.words[5] = word(5, 5_000);
         assert_eq!(write(&order, &mut []), Err(33));
-        order.words[4] = word(4, 500_000_001);
+        order.words[4] = word(4, 10_000_000);
         assert_eq!(write(&order, &mut []), Err(32));
         order.words[0] = word(1, 50);
         assert_eq!(write(&order, &mut []), Err(31));
     }
 
     #[test]
-    fn flow_is_taken_in_whole_thousands_up_to_its_limit() {
+    fn flow_is_taken_in_thousands_up_to_its_limit() {
         let mut buffer = [0; 393];
-        for (flow, number) in [(0, None), (1, Some(32)), (500, Some(32)), (999, Some(32)), (1_000, None)]
-            .into_iter()
-            .chain([(20_000_500, Some(32)), (500_000_000, None), (500_000_001, Some(32))])
-            .chain([(500_001_000, Some(32)), (0x1FFF_FFFF, Some(32))])
-        {
+        for flow in [0, 1, 20_500, 499_999, 500_000, 500_001, 536_870, 536_871, 9_999_998, 9_999_999] {
             let mut order = example();
             order.words[1] = word(1, 10);
+            order.words[3] = word(3, 1);
             order.words[4] = word(4, flow);
-            assert_eq!(write(&order, &mut buffer).err(), number, "{flow}");
+            assert_eq!(write(&order, &mut buffer), Ok(393), "{flow}");
+            let line = buffer.split(|&byte| byte == b'\n').find(|line| line.starts_with(b"220"));
+            let text = format!("{:>10}", u64::from(flow) * 1_000);
+            assert!(line.is_some_and(|line| line.ends_with(text.as_bytes())), "{flow}");
+            assert!(check(&buffer).to_string().starts_with("accepted 1 "), "{flow}");
+        }
+        for flow in [10_000_000, 20_000_000, 500_000_000, LARGEST_VALUE] {
+            let mut order = example();
+            order.words[4] = word(4, flow);
+            assert_eq!(write(&order, &mut buffer), Err(32), "{flow}");
         }
     }
 }

@@ -10,14 +10,13 @@
 //! at most 2,208 hours for each of its quarters, by itself; hours are none of
 //! the sums that the limit is for.
 
+use crate::calendar::MOST_HOURS;
+
 /// The numbers of a record.
 pub const RECORD: usize = 7;
 
 /// The numbers of an accepted answer.
 pub const ANSWER: usize = 6;
-
-/// The most hours that a quarter has.
-pub const MOST_HOURS: u64 = 2_208;
 
 /// The largest sum, in tenths.
 pub const MOST_SUM: u64 = 9_999_999_999;

@@ -14,10 +14,8 @@ const INFINITY: u64 = 0x7FF0_0000_0000_0000;
 const SIGN: u64 = 0x8000_0000_0000_0000;
 const QUIET: u64 = 0x0008_0000_0000_0000;
 
-/// The least and the most units of SO2, NOx, CO2 and flow, and what a unit adds
-/// to a word.
-const LIMITS: [(u128, u128); 4] = [(0, 99_999), (0, 99_999), (1, 1_000), (0, 500_000)];
-const UNITS: [u32; 4] = [1, 1, 1, 1_000];
+/// The least and the most units of SO2, NOx, CO2 and flow.
+const LIMITS: [(u128, u128); 4] = [(0, 99_999), (0, 99_999), (1, 1_000), (0, 9_999_999)];
 
 /// The decimal digits of a float from 0 up: those of its whole units, and all
 /// the others.
@@ -53,7 +51,7 @@ fn word(place: usize, state: u8, pattern: u64) -> Result<u32, u32> {
     if units < low || units > high {
         return Err(46);
     }
-    Ok((place as u32 + 1) * 0x2000_0000 + UNITS[place] * units as u32)
+    Ok((place as u32 + 1) * 0x2000_0000 + units as u32)
 }
 
 /// What the call should return, and the answer after it.
@@ -195,7 +193,7 @@ fn readings_that_floats_round_wrongly() {
 fn limits_and_the_floats_beside_them() {
     let drawn = Drawn::new();
     let float = |number: &str| number.parse::<f64>().unwrap().to_bits();
-    let (ppm, co2, flow) = (float("9999.95"), float("100.05") + 1, float("500000500"));
+    let (ppm, co2, flow) = (float("9999.95"), float("100.05") + 1, float("9999999500"));
     for (place, first_past) in [(0, ppm), (1, ppm), (2, co2), (3, flow)] {
         drawn.have(|hour| {
             refusal(hour) == Some(46) && alone(hour, place) && hour.readings[place] == first_past

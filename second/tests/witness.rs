@@ -289,7 +289,7 @@ fn hours_without_flow() {
 fn ends_of_all_ranges() {
     for so2 in [0, 1, 99_999] {
         for co2 in [1, 2, 999, 1_000] {
-            for flow in [0, 1, 2, 499_999, 500_000] {
+            for flow in [0, 1, 2, 499_999, 500_000, 500_001, 9_999_998, 9_999_999] {
                 for fc in [5_000, 18_000, 30_000] {
                     let readings = Readings { so2: Monitor(so2), nox: 99_999 - so2, co2, flow, fc };
                     FIGURES.iter().for_each(|&figure| agree_at_edges(figure, &readings));
@@ -307,7 +307,7 @@ fn many_random_hours() {
             so2: Monitor(random.spread(99_999)),
             nox: random.spread(99_999),
             co2: random.spread(1_000).max(1),
-            flow: random.spread(500_000),
+            flow: random.spread(9_999_999),
             fc: random.between(5_000, 30_000),
         };
         for figure in FIGURES {

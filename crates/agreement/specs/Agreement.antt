@@ -28,7 +28,7 @@ use Rattle.sheet.specs.Sheet.{recordedReadings, sheetHourCount, shapeOf, sheetH
 use Rattle.sheet.specs.declared.SheetHour.{SheetHour}
 use Rattle.writer.specs.Recorded.{ReportHour, recordedHour, recordedHours, reportHours}
 use Rattle.writer.specs.Refusals.{refusalOf}
-use Rattle.writer.specs.Written.{writtenNumber, shortestReport, report, answered, buffered}
+use Rattle.writer.specs.Written.{writtenNumber, shortestReport, report, answered, buffered, answeredIn, bufferedIn}
 use Rattle.writer.specs.TableLaws.{not-refused, number-tells}
 use Rattle.writer.specs.ReportLaws.{report-hours-count, report-shape, report-bytes}
 use Rattle.writer.specs.declared.Written.the-variants.{Length, Refused}
@@ -74,7 +74,7 @@ module _ (year quarter : ℕ) (name sheet : List ℕ) (named : length name ≡ s
   -- what was written is the report of the sheet's hours, which can be written
   written-report : (buffer : List ℕ) (n : ℕ) → answered year quarter name sheet (length buffer) ≡ Length n →
       (take n (buffered year quarter name sheet buffer) ≡ report year quarter name hours) × Reportable year quarter name hours
-  unfolding answered buffered
+  unfolding answeredIn bufferedIn
   written-report buffer n e = go (refusalOf year quarter name sheet (length buffer)) refl e
     where
       go : (f : ℕ) → refusalOf year quarter name sheet (length buffer) ≡ f →
@@ -84,7 +84,7 @@ module _ (year quarter : ℕ) (name sheet : List ℕ) (named : length name ≡ s
           let l : reportLength (shapeOf sheet) ≡ n = cc in
           let file = report year quarter name hours in
           let k : length file ≡ n = report-bytes year quarter name hours named (shapeOf sheet) (report-shape sheet) ∙ l in (
-            rw (z, buffered) (take-at file (drop (reportLength (shapeOf sheet)) buffer) n k),
+            rw (z, bufferedIn) (take-at file (drop (reportLength (shapeOf sheet)) buffer) n k),
             writable-reportable year quarter name sheet named (not-refused year quarter name sheet (length buffer) z .0),
           )
       go (suc f) z v = absurd (let y : _≡_ {A = ℕ} 0 1 = cc in omega arith)

@@ -9,7 +9,7 @@ use Rattle.exact.specs.Logic.{ranked-all, mapped-all}
 use Rattle.calendar.specs.Calendar.{mostHours, hoursInQuarter}
 use Rattle.calendar.specs.CalendarLaws.{hours-in-quarter}
 use Rattle.layout.specs.Layout.{stackWidth}
-use Rattle.sheet.specs.Sheet.{sheetHourCount, sheetHour, sheetHours}
+use Rattle.sheet.specs.Sheet.{sheetHourCount, sheetHour, sheetHours, sheetHoursIn}
 use Rattle.sheet.specs.SheetTests.{hoursRise}
 use Rattle.sheet.specs.TestLaws.{rise-first}
 use Rattle.sheet.specs.declared.SheetHour.{SheetHour}
@@ -36,7 +36,7 @@ monitored-sheet (h ∷ hs) = (refl, monitored-sheet hs)
 
 pub writable-reportable : (year quarter : ℕ) (name sheet : List ℕ) → length name ≡ stackWidth → Writable year quarter name sheet →
     Reportable year quarter name (reportHours (sheetHours sheet))
-unfolding sheetHours
+unfolding sheetHoursIn
 writable-reportable year quarter name sheet named w = record {
   heading = w .shaped .heading;
   named = named;

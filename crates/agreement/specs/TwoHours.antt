@@ -1,5 +1,5 @@
 -- A report of two operating hours in a leap year's first quarter, 29 February 05 and 31 March 23: what the writer gives is accepted, and what
--- is damaged is refused at its own place.
+-- is damaged is refused at its own place. And the worked hour at a large station.
 use mathlib.Core.Path.{_≡_, refl}
 use mathlib.Core.Bool.{true}
 use mathlib.Core.List.{List, [], _∷_}
@@ -32,22 +32,27 @@ use Rattle.reading.specs.Recorded.{linesWith, idle, recordsOf, valueOn, hourAt,
 use Rattle.judging.specs.Judged.{judgedHours, comparedTotals, judgedQuarter}
 use Rattle.checker.specs.Checked.{answerNumbers, judged, afterReading, checked}
 use Rattle.checker.specs.Examples.{Damage, allNamed}
-use Rattle.sheet.specs.Sheet.{sheetHour, sheetHours}
-use Rattle.sheet.specs.SheetTests.{every, headingHolds, kindsRise, kindsHold, hourHolds, hoursRise, sheetHolds, readingsHold}
+use Rattle.sheet.specs.Sheet.{sheetHourIn, sheetHoursIn}
+use Rattle.sheet.specs.SheetTests.{every, headingHolds, hourHolds, hoursRise, readingsHoldIn, kindsRiseIn, kindsHoldIn, sheetHoldsIn}
 use Rattle.records.specs.Records.{headed, valued, facilityRecord, totalsRecord}
-use Rattle.writer.specs.Examples.{stack}
-use Rattle.writer.specs.Refusals.{figuresHold, refusalOf}
-use Rattle.writer.specs.Written.{hourRecord, writtenRecords, lined, report, answered, buffered}
+use Rattle.writer.specs.Examples.{stack, sheetWith}
+use Rattle.writer.specs.Refusals.{figuresHold, refusalIn}
+use Rattle.writer.specs.Written.{hourRecord, writtenRecords, lined, report, answered, buffered, bufferedIn, answeredIn}
+use Rattle.writer.specs.declared.Written.the-variants.{Length}
 
 -- hour 1,421 for 0.25 hours: SO2 123.4, NOx 98.7, CO2 11.1, flow 12,345,000, Fc 1,040.0; hour 2,183 for 1.00: 567.8, 43.2, 9.9, 23,456,000, 2,222.2
 abbrev twoSheet : List ℕ
 twoSheet =
-    (0 * 2 ^ 29 + 1421 * 128 + 25) ∷ (1 * 2 ^ 29 + 1234) ∷ (2 * 2 ^ 29 + 987) ∷ (3 * 2 ^ 29 + 111) ∷ (4 * 2 ^ 29 + 12_345_000) ∷ (5 * 2 ^ 29 + 10_400)
-    ∷ (0 * 2 ^ 29 + 2183 * 128 + 100) ∷ (1 * 2 ^ 29 + 5678) ∷ (2 * 2 ^ 29 + 432) ∷ (3 * 2 ^ 29 + 99) ∷ (4 * 2 ^ 29 + 23_456_000) ∷ (5 * 2 ^ 29 + 22_222)
+    (0 * 2 ^ 29 + 1421 * 128 + 25) ∷ (1 * 2 ^ 29 + 1234) ∷ (2 * 2 ^ 29 + 987) ∷ (3 * 2 ^ 29 + 111) ∷ (4 * 2 ^ 29 + 12_345) ∷ (5 * 2 ^ 29 + 10_400)
+    ∷ (0 * 2 ^ 29 + 2183 * 128 + 100) ∷ (1 * 2 ^ 29 + 5678) ∷ (2 * 2 ^ 29 + 432) ∷ (3 * 2 ^ 29 + 99) ∷ (4 * 2 ^ 29 + 23_456) ∷ (5 * 2 ^ 29 + 22_222)
     ∷ []
 
 unfoldable pub two : List ℕ
 two = buffered 2004 1 stack twoSheet (replicate 711 0)
+
+-- 600,000,000 scfh
+unfoldable pub large : List ℕ
+large = buffered 2005 3 stack (sheetWith 600_000) (replicate 393 0)
 
 -- the report with these bytes from a column of the record of rank k on
 abbrev with : List ℕ → RecordType → (k column : ℕ) → List ℕ → List ℕ
@@ -100,13 +105,15 @@ twoDamages =
 pub two-answered : (columns 31 8 two ≡ firstDate) × (columns 72 8 two ≡ secondDate)
     × (answerNumbers (checked two) ≡ 2 ∷ 11 ∷ 1519 ∷ 13_744 ∷ 113 ∷ 1 ∷ [])
     × (allNamed twoDamages ≡ true)
-unfolding two allNamed put over meets totalOf all same columns digitsFrom wholeOf decimalsBehind fixedOf fieldOf numberOf digitsOf digitOrBlank leading
+    × (answered 2005 3 stack (sheetWith 600_000) 393 ≡ Length 393)
+    × (answerNumbers (checked large) ≡ 1 ∷ 62 ∷ 20_520 ∷ 200_000 ∷ 358 ∷ 36 ∷ [])
+unfolding two large allNamed put over meets totalOf all same columns digitsFrom wholeOf decimalsBehind fixedOf fieldOf numberOf digitsOf digitOrBlank leading
     wholeWritten fixedWritten written leapYear daysInMonth daysInQuarter hoursInQuarter inQuarter daysBefore hourOfQuarter quarterHour monthOfDay dateOfHour
     numberHour fieldHour stampHour stampNumber stampOf passesTest roundedValue roundedFigures totalsOf meanOf quarterOf quarterTotals onto lines last typeIs
     shapeFault stackFault commonFault within reportLength fieldFault valuesFault digitsIn facilityFault facilityLine risingFault datedFault hourFault
     hourNumber hourLine dateFault dueFault operates idleFault operatingFault timedFault operationFault saidOf operationLine runOf runsOf walkDue
     endOperations walkOperations walkEnd walkLast walkListed walkLater walkHours walk readOf linesWith idle recordsOf valueOn hourAt ranked hoursOf
-    totalsIn firstFailing judgedHours judgedQuarter comparedTotals judged afterReading checked isEmpty so2Fault hasGas so2Blank gasFault sheetHour
-    sheetHours every headingHolds kindsRise kindsHold hourHolds hoursRise sheetHolds readingsHold figuresHold refusalOf headed valued facilityRecord
-    totalsRecord hourRecord writtenRecords lined report answered buffered
-two-answered = (refl, refl, refl, refl)
+    totalsIn firstFailing judgedHours judgedQuarter comparedTotals judged afterReading checked isEmpty so2Fault hasGas so2Blank gasFault sheetHourIn
+    sheetHoursIn every headingHolds kindsRiseIn kindsHoldIn hourHolds hoursRise sheetHoldsIn readingsHoldIn figuresHold refusalIn headed valued facilityRecord
+    totalsRecord hourRecord writtenRecords lined report answeredIn bufferedIn
+two-answered = (refl, refl, refl, refl, refl, refl)

@@ -125,9 +125,9 @@ damages =
     ∷ record { file = changed Co2Mass 23 (48 ∷ []); number = 8; line = 10 }
     -- CO2 0.0 percent
     ∷ record { file = changed Co2Concentration 31 (48 ∷ 48 ∷ 46 ∷ 48 ∷ []); number = 9; line = 4 }
-    -- flow 20,000,500; 500,000,001, which is no whole thousand either
+    -- flow 20,000,500; 9,999,999,001, which is no whole thousand either
     ∷ record { file = changed VolumetricFlow 46 (53 ∷ []); number = 43; line = 5 }
-    ∷ record { file = changed VolumetricFlow 40 (53 ∷ 48 ∷ 48 ∷ 48 ∷ 48 ∷ 48 ∷ 48 ∷ 48 ∷ 49 ∷ []); number = 9; line = 5 }
+    ∷ record { file = changed VolumetricFlow 39 (57 ∷ 57 ∷ 57 ∷ 57 ∷ 57 ∷ 57 ∷ 57 ∷ 48 ∷ 48 ∷ 49 ∷ []); number = 9; line = 5 }
     -- 330 is missing
     ∷ record { file = take (start Co2Mass) workedHour; number = 10; line = 10 }
     -- heat input 1,933.3; SO2 930.0; NOx 0.958; CO2 936.8

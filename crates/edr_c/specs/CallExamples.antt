@@ -1,4 +1,4 @@
--- Calls of `edr_check`, `edr_write` and `edr_year_to_date`: what is returned, and what is left in the lent slice. Computed, in tables.
+-- Calls of `edr_check`, `edr_write`, `edr_year_to_date` and `edr_convert`: what is returned, and what is left in the lent slice. Computed, in tables.
 use mathlib.Core.Path.{_≡_, refl}
 use mathlib.Core.List.{List, [], _∷_, map}
 use Prim.Native.Nat.{ℕ}
@@ -13,6 +13,8 @@ use Rattle.checker.specs.PromiseLaws.{accepts}
 use Rattle.checker.specs.declared.Answer.the-variants.{Accepted}
 use Rattle.annual.specs.Joined.{allZeros, follows, sumsFit, joinedOf}
 use Rattle.writer.specs.Examples.{stack, workedSheet, worked, worked-written}
+use Rattle.conversion.specs.Conversion.{eachWord, conversionRefusal, recodedFrom, converted, conversionAnswer, convertedNumber}
+use Rattle.conversion.specs.Examples.{kept}
 use Rattle.edr_c.specs.Boundary.{checkCode, checkFilled, writeCode, writeFilled, yearCode, yearFilled}
 
 abbrev lent : List ℕ
@@ -61,3 +63,11 @@ pub year-calls : (yearCode previous answer 2005 2 lent ≡ 1) × (yearFilled pre
     × (yearFilled previous answer 2005 2 (take 6 lent) ≡ take 6 lent)
 unfolding yearCode yearFilled joinedOf follows within allZeros sumsFit
 year-calls = (refl, refl, refl, refl, refl, refl, refl, refl)
+
+-- the kept form of the worked hour, no words, five words, and a flow that is no whole thousand
+pub convert-calls : (map (λ sheet. convertedNumber (conversionAnswer sheet)) (kept 0 20_000_000 ∷ [] ∷ take 5 (kept 0 20_000_000) ∷ kept 0 20_000_500 ∷ []) ≡
+    0 ∷ 0 ∷ 31 ∷ 50 ∷ [])
+    × (map converted (kept 0 20_000_000 ∷ [] ∷ take 5 (kept 0 20_000_000) ∷ kept 0 20_000_500 ∷ []) ≡ workedSheet ∷ [] ∷ take 5 (kept 0 20_000_000)
+    ∷ kept 0 20_000_500 ∷ [])
+unfolding eachWord conversionRefusal recodedFrom converted conversionAnswer
+convert-calls = (refl, refl)

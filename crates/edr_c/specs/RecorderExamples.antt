@@ -44,9 +44,9 @@ call states readings answer returned left = record { states = states; readings =
 
 pub calls : List Call
 calls =
-    call (0 ∷ 1 ∷ 0 ∷ 0 ∷ []) floats lent 1 (wordOf 1 10 ∷ wordOf 2 20 ∷ wordOf 3 40 ∷ wordOf 4 2000 ∷ 1 ∷ 96 ∷ [])
+    call (0 ∷ 1 ∷ 0 ∷ 0 ∷ []) floats lent 1 (wordOf 1 10 ∷ wordOf 2 20 ∷ wordOf 3 40 ∷ wordOf 4 2 ∷ 1 ∷ 96 ∷ [])
     -- five elements are enough, four are not
-    ∷ call (1 ∷ 0 ∷ 1 ∷ 1 ∷ []) floats (91 ∷ 92 ∷ 93 ∷ 94 ∷ 95 ∷ []) 1 (wordOf 1 10 ∷ wordOf 2 20 ∷ wordOf 3 40 ∷ wordOf 4 2000 ∷ 3 ∷ [])
+    ∷ call (1 ∷ 0 ∷ 1 ∷ 1 ∷ []) floats (91 ∷ 92 ∷ 93 ∷ 94 ∷ 95 ∷ []) 1 (wordOf 1 10 ∷ wordOf 2 20 ∷ wordOf 3 40 ∷ wordOf 4 2 ∷ 3 ∷ [])
     ∷ call (0 ∷ 0 ∷ 0 ∷ 0 ∷ []) floats (91 ∷ 92 ∷ 93 ∷ 94 ∷ []) 2 (91 ∷ 92 ∷ 93 ∷ 94 ∷ [])
     ∷ call (2 ∷ 0 ∷ 0 ∷ 0 ∷ []) floats (91 ∷ 92 ∷ 93 ∷ 94 ∷ []) 2 (91 ∷ 92 ∷ 93 ∷ 94 ∷ [])
     -- absent, in each place, by its own state: its float is not looked at

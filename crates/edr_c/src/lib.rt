@@ -1,7 +1,8 @@
-// The boundary for C and Rust: the check, the writer, the year to date and a recorder's hour on plain numbers and slices.
+// The boundary for C and Rust: the check, the writer, the year to date, a recorder's hour and a kept sheet on plain numbers and slices.
 use annual::Joined;
 use annual::YearToDate;
 use checker::Answer;
+use conversion::Converted;
 use recorder::Recorded;
 use recorder::RecorderHour;
 use recorder::RecorderReading;
@@ -13,6 +14,7 @@ ghost use lib.ListN.{length, getD};
 ghost use lib.Ieee.{nan};
 ghost use Rattle.edr_c.specs.Boundary.{answerLength, yearLength, checkCode, checkFilled, writeCode, writeFilled};
 ghost use Rattle.edr_c.specs.Boundary.{quarterIn, yearIn, yearCode, yearFilled};
+ghost use Rattle.conversion.specs.Conversion.{converted, conversionAnswer, convertedNumber};
 ghost use Rattle.edr_c.specs.RecorderCall.{readingIn, recorderCode, recorderFilled};
 
 // The numbers of an answer.
@@ -206,5 +208,16 @@ pub extern "C" fn edr_recorder_words(states: &[u8], readings: &[f64], answer: &m
             answer[0] = number as u32;
             0
         }
+    }
+}
+
+// 0 where the sheet is converted, or the number of the refusal, with every word as it was.
+#[no_mangle]
+pub extern "C" fn edr_convert(sheet: &mut [u32]) -> u64
+    ensures { λ r. ⌜ (r ≡ convertedNumber (conversionAnswer (now (sheet .entry)))) × (now (sheet .exit) ≡ converted (now (sheet .entry))) ⌝ }
+{
+    match conversion::convert(sheet) {
+        Converted::Done => 0,
+        Converted::Refused(number) => number,
     }
 }

@@ -43,7 +43,7 @@ abbrev pub co2Percent : Value
 co2Percent = rangedValue 29 6 1 1 1000
 
 abbrev pub flowScfh : Value
-flowScfh = steppedValue 39 10 0 0 500_000_000 1000
+flowScfh = steppedValue 39 10 0 0 9_999_999_000 1000
 
 -- flow is recorded in whole thousands: how many there are in a number of scfh, and the scfh of so many
 

@@ -100,7 +100,7 @@ pub const FLOW_SCFH: Value = Value {
     width: 10,
     decimals: 0,
     least: 0,
-    most: 500000000,
+    most: 9999999000,
     step: 1000,
 };
 

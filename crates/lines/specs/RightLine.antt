@@ -50,7 +50,7 @@ paperRow Facility = row 1 0 0 14 0 []
 paperRow So2Concentration = row 2 0 0 40 16 (so2Reading ∷ [])
 paperRow NoxConcentration = row 2 0 1 34 16 (ranged 29 6 1 0 99_999 ∷ [])
 paperRow Co2Concentration = row 2 0 2 34 16 (ranged 29 6 1 1 1_000 ∷ [])
-paperRow VolumetricFlow = row 2 2 0 48 16 (stepped 39 10 0 0 500_000_000 1_000 ∷ [])
+paperRow VolumetricFlow = row 2 2 0 48 16 (stepped 39 10 0 0 9_999_999_000 1_000 ∷ [])
 paperRow Operation = row 3 0 0 42 10 (operatingTime ∷ heatInput ∷ [])
 paperRow QuarterTotals =
     row 3 0 1 59 0 (ranged 10 11 1 0 9_999_999_999 ∷ ranged 21 11 1 0 9_999_999_999 ∷ ranged 32 11 1 0 9_999_999_999 ∷ ranged 43 6 3 0 99_999

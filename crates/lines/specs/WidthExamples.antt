@@ -53,9 +53,9 @@ wideLines =
     -- 202STACK1xxxxxx05070100xxxxx0100.0
     ∷ wide Co2Concentration (1000 ∷ [])
     ((50 ∷ 48 ∷ 50 ∷ []) ++ stack ++ unread 6 ++ date ++ unread 5 ++ (48 ∷ 49 ∷ 48 ∷ 48 ∷ 46 ∷ 48 ∷ []))
-    -- 220STACK1xxxxxx05070100xxxxxxxxxxxxxxx0500000000
-    ∷ wide VolumetricFlow (500_000_000 ∷ [])
-    ((50 ∷ 50 ∷ 48 ∷ []) ++ stack ++ unread 6 ++ date ++ unread 15 ++ (48 ∷ 53 ∷ 48 ∷ 48 ∷ 48 ∷ 48 ∷ 48 ∷ 48 ∷ 48 ∷ 48 ∷ []))
+    -- 220STACK1xxxxxx05070100xxxxxxxxxxxxxxx9999999000
+    ∷ wide VolumetricFlow (9_999_999_000 ∷ [])
+    ((50 ∷ 50 ∷ 48 ∷ []) ++ stack ++ unread 6 ++ date ++ unread 15 ++ (57 ∷ 57 ∷ 57 ∷ 57 ∷ 57 ∷ 57 ∷ 57 ∷ 48 ∷ 48 ∷ 48 ∷ []))
     -- 300STACK1050701001.00xxxxxxxxxxxxxx12345.6
     ∷ wide Operation (100 ∷ 123_456 ∷ [])
     ((51 ∷ 48 ∷ 48 ∷ []) ++ stack ++ date ++ (49 ∷ 46 ∷ 48 ∷ 48 ∷ []) ++ unread 14 ++ (49 ∷ 50 ∷ 51 ∷ 52 ∷ 53 ∷ 46 ∷ 54 ∷ []))
@@ -91,7 +91,7 @@ pub range-ends :
     × (faults timeHours (0 ∷ 1 ∷ 100 ∷ 101 ∷ []) ≡ 9 ∷ 0 ∷ 0 ∷ 9 ∷ [])
     × (faults listedTime (0 ∷ 100 ∷ 101 ∷ []) ≡ 0 ∷ 0 ∷ 9 ∷ [])
     × (faults co2Percent (0 ∷ 1 ∷ 1000 ∷ 1001 ∷ []) ≡ 9 ∷ 0 ∷ 0 ∷ 9 ∷ [])
-    × (faults flowScfh (0 ∷ 500_000_000 ∷ 500_001_000 ∷ []) ≡ 0 ∷ 0 ∷ 9 ∷ [])
+    × (faults flowScfh (0 ∷ 500_001_000 ∷ 9_999_999_000 ∷ 9_999_999_001 ∷ []) ≡ 0 ∷ 0 ∷ 0 ∷ 9 ∷ [])
     × (faults fFactor (4999 ∷ 5000 ∷ 30_000 ∷ 30_001 ∷ []) ≡ 9 ∷ 0 ∷ 0 ∷ 9 ∷ [])
 unfolding fieldFault within
 range-ends = (refl, refl, refl, refl, refl, refl, refl)

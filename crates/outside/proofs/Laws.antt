@@ -10,7 +10,7 @@ use Rattle.layout.specs.Layout.{reportLength}
 use Rattle.writer.specs.Refusals.{refusalOf}
 use Rattle.writer.specs.TableLaws.{not-refused}
 use Rattle.sheet.specs.Sheet.{shapeOf}
-use Rattle.writer.specs.Written.{answered}
+use Rattle.writer.specs.Written.{answered, answeredIn}
 use Rattle.writer.specs.declared.Written.{Written}
 use Rattle.writer.specs.declared.Written.the-variants.{Length, Refused}
 use Rattle.outside.specs.Numbers.{numberAt, wordsOf, adlerOf}
@@ -38,7 +38,7 @@ adler-end bytes i a b h = rw (drop-of-length-le bytes h) refl
 
 pub answer-fits : (year quarter : ℕ) (name sheet : List ℕ) (room : ℕ) (written : Written) →
     written ≡ answered year quarter name sheet room → lastOf written 0 ≤ room
-unfolding answered
+unfolding answeredIn
 answer-fits year quarter name sheet room written e = rw e (go (refusalOf year quarter name sheet room) refl)
   where
     go : (k : ℕ) → refusalOf year quarter name sheet room ≡ k

@@ -13,7 +13,7 @@ unfoldable pub wordsOf : ℕ → List ℕ → List ℕ
 wordsOf zero bytes = []
 wordsOf (suc n) bytes = wordsOf n bytes ++ (numberAt bytes (4 * n) ∷ [])
 
--- Adler-32 (RFC 1950), from the sums of the bytes before
+-- Adler-32 (RFC 1950), from the sums of the bytes before; of words too
 unfoldable pub adlerOf : ℕ → ℕ → List ℕ → ℕ
 adlerOf a b [] = b * 65536 + a
 adlerOf a b (byte ∷ bytes) = adlerOf ((a + byte) % 65521) ((b + (a + byte) % 65521) % 65521) bytes

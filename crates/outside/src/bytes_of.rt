@@ -1,4 +1,4 @@
-// Numbers in bytes: one of four bytes, words one behind the other and the sum of a buffer.
+// Numbers in bytes: one of four bytes, words one behind the other and the sums of a buffer and of a sheet.
 ghost use mathlib.Core.Path.{_≡_};
 ghost use Prim.Native.Nat.{_+_, _*_, _<_, _≤_};
 ghost use lib.ListN.{length, getD};
@@ -51,6 +51,27 @@ pub fn adler(bytes: &[u8]) -> u64
     let mut i = 0;
     while i < bytes.len() {
         a = (a + wide(bytes[i])) % 65521;
+        b = (b + a) % 65521;
+        i += 1;
+    }
+    (b * 65536 + a) as u64
+}
+
+fn wide_word(word: u32) -> usize
+    ensures { λ r. ⌜ (r ≡ word) × (r < 4294967296) ⌝ }
+{
+    word as usize
+}
+
+// The same sum of words, each taken whole.
+pub fn words_adler(words: &[u32]) -> u64
+    ensures { λ r. ⌜ r ≡ adlerOf 1 0 (now (words .entry)) ⌝ }
+{
+    let mut a = 1;
+    let mut b = 0;
+    let mut i = 0;
+    while i < words.len() {
+        a = (a + wide_word(words[i])) % 65521;
         b = (b + a) % 65521;
         i += 1;
     }

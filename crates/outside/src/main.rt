@@ -1,10 +1,12 @@
-// Runs the check and the writer on the cases of a file and prints what each answers, to be compared with what another implementation says.
+// Runs the check, the writer and the conversion on the cases of a file and prints what each answers, to be compared with what another implementation says.
 mod bytes_of;
 
 use bytes_of::adler;
 use bytes_of::byte_at;
 use bytes_of::number_at;
 use bytes_of::read_words;
+use bytes_of::words_adler;
+use conversion::Converted;
 use libc::STDERR_FILENO;
 use libc::STDOUT_FILENO;
 use writer::Written;
@@ -25,12 +27,12 @@ fn print_check(report: &[u8]) {
     io::write_all(STDOUT_FILENO, &line[..size]);
 }
 
-// A word, a number and the sum of the bytes.
-fn print_sum(word: &[u8], number: u64, bytes: &[u8])
+// A word, a number and the sum of what it is about.
+fn print_sum(word: &[u8], number: u64, sum: u64)
     requires { ⌜ length (now word) ≤ 8 ⌝ }
 {
     let mut line = [0u8; printing::LONGEST_LINE];
-    let size = printing::print_line(&mut line, word, &[number, adler(bytes)]);
+    let size = printing::print_line(&mut line, word, &[number, sum]);
     io::write_all(STDOUT_FILENO, &line[..size]);
 }
 
@@ -41,12 +43,12 @@ fn print_written(written: Written, buffer: &[u8], last: usize) -> usize
 {
     match written {
         Written::Length(size) => {
-            print_sum(b"written", size as u64, buffer);
+            print_sum(b"written", size as u64, adler(buffer));
             print_check(&buffer[..size]);
             size
         }
         Written::Refused(number) => {
-            print_sum(b"refused", number, buffer);
+            print_sum(b"refused", number, adler(buffer));
             last
         }
     }
@@ -75,12 +77,35 @@ fn write_sheet(case: &[u8], sheet: &[u32], buffer: &mut [u8]) -> Written
     )
 }
 
+// Converts a kept sheet, and says whether it is one to write.
+fn convert_sheet(sheet: &mut [u32]) -> bool {
+    let number = match conversion::convert(sheet) {
+        Converted::Done => 0,
+        Converted::Refused(number) => number,
+    };
+    print_sum(b"words", number, words_adler(sheet));
+    number == 0
+}
+
+// Reads a sheet, and converts it where it is a kept one. Says whether there is one to write.
+fn read_sheet(case: &[u8], sheet: &mut [u32]) -> bool
+    requires { ⌜ 23 + 4 * length (now sheet) ≤ length (now case) ⌝ }
+{
+    read_words(&case[23..], sheet);
+    if byte_at(case, 0) != b'C' {
+        return true;
+    }
+    convert_sheet(sheet)
+}
+
 // Reads and writes a sheet. Returns the length of the last report written.
 fn run_sheet(case: &[u8], sheet: &mut [u32], buffer: &mut [u8], last: usize) -> usize
     requires { ⌜ 23 + 4 * length (now sheet) ≤ length (now case) ⌝ }
     ensures { λ r. ⌜ ((long : ℕ) → last ≤ long → length (now (buffer .entry)) ≤ long → r ≤ long) ⌝ }
 {
-    read_words(&case[23..], sheet);
+    if !read_sheet(case, sheet) {
+        return last;
+    }
     let answer = write_sheet(case, sheet, buffer);
     print_written(answer, buffer, last)
 }
@@ -98,7 +123,7 @@ fn file_case(case: &[u8]) -> usize
     end
 }
 
-// A sheet to write, into the first bytes of the buffer.
+// A sheet to write, or a kept one to convert and write, into the first bytes of the buffer.
 fn write_case(case: &[u8], buffer: &mut [u8], last: usize) -> Step
     requires { ⌜ (0 < length (now case)) × (last ≤ length (now buffer)) ⌝ }
     ensures { λ r. ⌜ Taken (now (case .entry)) (now (buffer .entry)) r ⌝ }
@@ -173,7 +198,7 @@ fn run_case(case: &[u8], buffer: &mut [u8], last: usize) -> Step
     ensures { λ r. ⌜ Taken (now (case .entry)) (now (buffer .entry)) r ⌝ }
 {
     let kind = byte_at(case, 0);
-    if kind == b'W' {
+    if (kind == b'W') | (kind == b'C') {
         return write_case(case, buffer, last);
     }
     if kind == b'P' {
@@ -212,17 +237,17 @@ fn sheet_room() -> [u32; 14000]
 }
 
 // Room for the cases.
-fn data_room() -> [u8; 3000000]
-    ensures { λ r. ⌜ 3000000 ≡ length r ⌝ }
+fn data_room() -> [u8; 4000000]
+    ensures { λ r. ⌜ 4000000 ≡ length r ⌝ }
 {
-    [0; 3000000]
+    [0; 4000000]
 }
 
-// Room for the longest report.
-fn report_room() -> [u8; 702300]
-    ensures { λ r. ⌜ 702300 ≡ length r ⌝ }
+// Room for the longest report, and some more.
+fn report_room() -> [u8; 703000]
+    ensures { λ r. ⌜ 703000 ≡ length r ⌝ }
 {
-    [0; 702300]
+    [0; 703000]
 }
 
 fn main() {

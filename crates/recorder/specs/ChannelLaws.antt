@@ -42,18 +42,18 @@ row-room Flow = record {
   fits = lit≤ tt;
 }
 
--- the number in the columns fits 64 bits before it is tried, and a word once it is within
+-- the number in the columns fits 64 bits before it is tried, and its units fit a word once it is within
 pub number-room : (c : Channel) (n : ℕ) → n ≤ recordingUnit c .den * 2 ^ 53 → columnOf c .step * n < 2 ^ 64
 number-room So2 n h = omega arith
 number-room Nox n h = omega arith
 number-room Co2 n h = omega arith
 number-room Flow n h = omega arith
 
-pub most-held : (c : Channel) → columnOf c .most < valueSize
-most-held So2 = lit< tt
-most-held Nox = lit< tt
-most-held Co2 = lit< tt
-most-held Flow = lit< tt
+pub most-held : (c : Channel) (n : ℕ) → columnOf c .step * n ≤ columnOf c .most → n < valueSize
+most-held So2 n h = omega arith
+most-held Nox n h = omega arith
+most-held Co2 n h = omega arith
+most-held Flow n h = omega arith
 
 -- ---- from 2^52 on
 

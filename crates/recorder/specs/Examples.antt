@@ -5,7 +5,7 @@ use Prim.Native.Nat.{ℕ, zero, suc, _+_, _*_, _^_}
 use lib.ListN.{replicate}
 use lib.Ieee.{Float, binary64, ofBits, mul}
 use Rattle.exact.specs.Sums.{totalOf}
-use Rattle.recorder.specs.Recording.{channels, columnNumber, floatFault, recorderNumbers, recordedOf}
+use Rattle.recorder.specs.Recording.{unitsIn, channels, recordingUnit, floatFault, recorderNumbers, recordedOf}
 use Rattle.recorder.specs.declared.RecorderReading.{RecorderReading}
 use Rattle.recorder.specs.declared.RecorderReading.the-variants.{Measured, Substituted, Absent}
 use Rattle.recorder.specs.declared.RecorderHour.{RecorderHour}
@@ -31,7 +31,7 @@ pub ten-times : (mul binary64 (float float-0-15) (float 0x4024_0000_0000_0000) �
 unfolding ofBits mul
 ten-times = (refl, refl)
 
--- a channel, a float's bits, and 0 with the number in the columns, or the refusal
+-- a channel, a float's bits, and 0 with its units, tenths or thousands, or the refusal
 pub record Row : Type 0 where
   pub channel : Channel
   pub bits : ℕ
@@ -41,7 +41,7 @@ abbrev row : Channel → (bits : ℕ) → List ℕ → Row
 row channel bits says = record { channel = channel; bits = bits; says = says }
 
 abbrev saidOf : Channel → Float → List ℕ
-saidOf c x = elim (floatFault c x) [ zero ↦ 0 ∷ columnNumber c x ∷ [] | suc number ↦ suc number ∷ [] ]
+saidOf c x = elim (floatFault c x) [ zero ↦ 0 ∷ unitsIn (recordingUnit c) x ∷ [] | suc number ↦ suc number ∷ [] ]
 
 pub rows : List Row
 rows =
@@ -59,13 +59,15 @@ rows =
     -- CO2: 100.05, the float above it
     ∷ row Co2 float-100-05 (0 ∷ 1000 ∷ [])
     ∷ row Co2 0x4059_0333_3333_3334 (46 ∷ [])
-    -- flow: 500.0, 1,500.0 and 500,000,500.0, ties, and the floats below them
-    ∷ row Flow 0x407f_4000_0000_0000 (0 ∷ 1000 ∷ [])
+    -- flow: 500.0, 1,500.0 and 9,999,999,500.0, ties, and the floats below them; 500,000,500.0 is a tie like any other
+    ∷ row Flow 0x407f_4000_0000_0000 (0 ∷ 1 ∷ [])
     ∷ row Flow 0x407f_3fff_ffff_ffff (0 ∷ 0 ∷ [])
-    ∷ row Flow 0x4097_7000_0000_0000 (0 ∷ 2000 ∷ [])
-    ∷ row Flow 0x4097_6fff_ffff_ffff (0 ∷ 1000 ∷ [])
-    ∷ row Flow 0x41bd_cd66_f400_0000 (46 ∷ [])
-    ∷ row Flow 0x41bd_cd66_f3ff_ffff (0 ∷ 500_000_000 ∷ [])
+    ∷ row Flow 0x4097_7000_0000_0000 (0 ∷ 2 ∷ [])
+    ∷ row Flow 0x4097_6fff_ffff_ffff (0 ∷ 1 ∷ [])
+    ∷ row Flow 0x41bd_cd66_f400_0000 (0 ∷ 500_001 ∷ [])
+    ∷ row Flow 0x41bd_cd66_f3ff_ffff (0 ∷ 500_000 ∷ [])
+    ∷ row Flow 0x4202_a05f_1060_0000 (46 ∷ [])
+    ∷ row Flow 0x4202_a05f_105f_ffff (0 ∷ 9_999_999 ∷ [])
     ∷ []
 
 -- the same floats to several channels
@@ -105,7 +107,7 @@ measured bits = Measured (float bits)
 abbrev substituted : ℕ → RecorderReading
 substituted bits = Substituted (float bits)
 
--- 0.25, 500.0, the negative next to zero, 500,000,500.0
+-- 0.25, 500.0, the negative next to zero, 9,999,999,500.0
 abbrev good : ℕ
 good = 0x3fd0_0000_0000_0000
 
@@ -116,7 +118,7 @@ abbrev negative : ℕ
 negative = 0x8000_0000_0000_0001
 
 abbrev large : ℕ
-large = 0x41bd_cd66_f400_0000
+large = 0x4202_a05f_1060_0000
 
 -- an hour, and the numbers of its answer
 pub record HourRow : Type 0 where
@@ -130,9 +132,9 @@ pub hours : List HourRow
 hours =
     -- the paper's worked hour: 250.0, 200.0, 12.0, 20,000,000
     at (hour (measured 0x406f_4000_0000_0000) (measured 0x4069_0000_0000_0000) (measured 0x4028_0000_0000_0000) (measured 0x4173_12d0_0000_0000))
-    (word 1 2500 ∷ word 2 2000 ∷ word 3 120 ∷ word 4 20_000_000 ∷ 0 ∷ [])
+    (word 1 2500 ∷ word 2 2000 ∷ word 3 120 ∷ word 4 20_000 ∷ 0 ∷ [])
     ∷ at (hour (substituted minus-zero) (measured minus-zero) (substituted good) (substituted flow-500))
-    (word 1 0 ∷ word 2 0 ∷ word 3 3 ∷ word 4 1000 ∷ 3 ∷ [])
+    (word 1 0 ∷ word 2 0 ∷ word 3 3 ∷ word 4 1 ∷ 3 ∷ [])
     -- one reading that is not good, in each place
     ∷ at (hour Absent (measured good) (measured good) (measured good)) (44 ∷ [])
     ∷ at (hour (measured good) Absent (measured good) (measured good)) (44 ∷ [])

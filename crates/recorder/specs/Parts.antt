@@ -7,7 +7,7 @@ use lib.Ieee.{Float, binary64, low}
 use lib.Ieee.Positive.{num, den}
 use Rattle.exact.specs.Rounding.{nearest}
 use Rattle.sheet.specs.Sheet.{valueSize, wordOf}
-use Rattle.recorder.specs.Recording.{usable, kindOf, columnOf, recordingUnit, columnNumber, floatFault, faultOf, wordFor}
+use Rattle.recorder.specs.Recording.{usable, unitsIn, kindOf, columnOf, recordingUnit, floatFault, faultOf, wordFor}
 use Rattle.recorder.specs.declared.RecorderReading.{RecorderReading}
 use Rattle.recorder.specs.declared.Channel.{Channel}
 use Rattle.recorder.specs.declared.Channel.the-variants.{So2, Nox, Co2, Flow}
@@ -58,10 +58,10 @@ channelRow c = record { column = columnOf c; unit = record { num = recordingUnit
 
 pub record FloatTried (c : Channel) (x : Float) (r : Tried) : Type 0 where
   pub fault : r .fault ≡ floatFault c x
-  pub held : r .value < valueSize
-  pub value : r .fault ≡ 0 → r .value ≡ columnNumber c x
+  pub held : r .units < valueSize
+  pub units : r .fault ≡ 0 → r .units ≡ unitsIn (recordingUnit c) x
 
 pub record Tries (c : Channel) (reading : RecorderReading) (r : Tried) : Type 0 where
   pub fault : r .fault ≡ faultOf c reading
-  pub held : r .value < valueSize
-  pub word : r .fault ≡ 0 → wordOf (kindOf c) (r .value) ≡ wordFor c reading
+  pub held : r .units < valueSize
+  pub word : r .fault ≡ 0 → wordOf (kindOf c) (r .units) ≡ wordFor c reading

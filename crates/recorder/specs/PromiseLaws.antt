@@ -3,7 +3,6 @@ use Prim.Native.Nat.{ℕ, _+_, _*_, _%_, _≤_, _<_}
 use mathlib.Core.Path.{_≡_, refl, sym, ap, subst, _∙_}
 use mathlib.Core.Bool.{Bool, true, false, true≢false}
 use mathlib.Core.List.{List, [], _∷_}
-use native.Mathlib.Nat.{lt-of-le-of-lt}
 use native.Mathlib.Omega.{arith}
 use lib.Dec.{lit≤}
 use lib.ListN.{length, getD}
@@ -13,7 +12,7 @@ use Rattle.exact.specs.RoundingLaws.{records-halfUp, records-rounded}
 use Rattle.exact.specs.Sums.{totalOf}
 use Rattle.exact.specs.Faults.{_orElse_, unless}
 use Rattle.exact.specs.Logic.{All}
-use Rattle.layout.specs.Values.{Within, inRange, thousandsOf}
+use Rattle.layout.specs.Values.{Within, inRange}
 use Rattle.layout.specs.LayoutLaws.{in-range-true, true-in-range, thousands-back}
 use Rattle.formulas.specs.Hour.{setOf}
 use Rattle.formulas.specs.Formulas.{entryOf, RoundsTo}
@@ -21,7 +20,7 @@ use Rattle.formulas.specs.declared.hour.Readings.{Readings}
 use Rattle.formulas.specs.declared.hour.Hour.{Hour}
 use Rattle.formulas.specs.declared.hour.Quantity.{Quantity}
 use Rattle.formulas.specs.declared.hour.Quantity.the-variants.{Heat, So2 as So2Rate, Nox as NoxRate, Co2 as Co2Rate}
-use Rattle.sheet.specs.Sheet.{hourWords, valueSize, wordKind, wordValue, wordOf, sheetKind, sheetValue, sheetHour, recordedReadings}
+use Rattle.sheet.specs.Sheet.{hourWords, valueSize, wordKind, wordValue, wordOf, flowKind, sheetKind, sheetValue, sheetHour, sheetHourIn, recordedReadings}
 use Rattle.sheet.specs.SheetLaws.{word-kind, word-value}
 use Rattle.recorder.specs.Recording.{exactOf, usable, unitsIn, channels, kindOf, columnOf, recordingUnit, readingOf, columnNumber, floatFault, faultOf, wordFor}
 use Rattle.recorder.specs.Recording.{substitutedIn, wordsFor, recordedOf, recorderNumbers}
@@ -109,13 +108,12 @@ channelCount Nox r = r .nox
 channelCount Co2 r = r .co2
 channelCount Flow r = r .flow
 
-count-read : (c : Channel) (sheet : List ℕ) (k n : ℕ) → sheetValue sheet k (kindOf c) ≡ columnOf c .step * n →
-    channelCount c (recordedReadings (sheetHour sheet k)) ≡ n
-unfolding sheetHour
-count-read So2 sheet k n e = e ∙ omega arith
-count-read Nox sheet k n e = e ∙ omega arith
-count-read Co2 sheet k n e = e ∙ omega arith
-count-read Flow sheet k n e = ap thousandsOf e ∙ thousands-back n
+count-read : (c : Channel) (sheet : List ℕ) (k : ℕ) → channelCount c (recordedReadings (sheetHour sheet k)) ≡ sheetValue sheet k (kindOf c)
+unfolding sheetHourIn
+count-read So2 sheet k = refl
+count-read Nox sheet k = refl
+count-read Co2 sheet k = refl
+count-read Flow sheet k = thousands-back (sheetValue sheet k flowKind)
 
 -- a reading that has a float is that float's
 
@@ -124,9 +122,9 @@ reads-exact (Measured y) x r = ap exactOf r
 reads-exact (Substituted y) x r = ap exactOf r
 reads-exact Absent x r = absurd r
 
-reads-word : (c : Channel) (reading : RecorderReading) (x : Float) → Reads reading x → wordFor c reading ≡ wordOf (kindOf c) (columnNumber c x)
-reads-word c (Measured y) x r = ap (λ (z : Float). wordOf (kindOf c) (columnNumber c z)) r
-reads-word c (Substituted y) x r = ap (λ (z : Float). wordOf (kindOf c) (columnNumber c z)) r
+reads-word : (c : Channel) (reading : RecorderReading) (x : Float) → Reads reading x → wordFor c reading ≡ wordOf (kindOf c) (unitsIn (recordingUnit c) x)
+reads-word c (Measured y) x r = ap (λ (z : Float). wordOf (kindOf c) (unitsIn (recordingUnit c) z)) r
+reads-word c (Substituted y) x r = ap (λ (z : Float). wordOf (kindOf c) (unitsIn (recordingUnit c) z)) r
 reads-word c Absent x r = absurd r
 
 abbrev channelWord : Channel → HourWords → ℕ
@@ -152,37 +150,38 @@ module _ (h : RecorderHour) (w : HourWords) (g : Given h w) (sheet : List ℕ) (
   good-there : (c : Channel) → Good c (readingOf c h)
   good-there c = reading-good c (readingOf c h) (g .none c)
 
-  abbrev number : Channel → ℕ
-  number c = columnOf c .step * good-there c .units
+  abbrev units : Channel → ℕ
+  units c = good-there c .units
 
-  held : (c : Channel) → number c < valueSize
-  held c = lt-of-le-of-lt (good-there c .recorded .within .most) (most-held c)
+  held : (c : Channel) → units c < valueSize
+  held c = most-held c (units c) (good-there c .recorded .within .most)
 
-  stood : (c : Channel) → channelWord c w ≡ wordOf (kindOf c) (number c)
+  stood : (c : Channel) → channelWord c w ≡ wordOf (kindOf c) (units c)
   stood c =
       let t = good-there c in
       ap (channelWord c) (sym (g .words)) ∙ given-word h c ∙ reads-word c (readingOf c h) (t .float) (t .reads)
-      ∙ ap (λ (n : ℕ). wordOf (kindOf c) (columnOf c .step * n)) (sym (records-one c (t .float) (t .units) (t .recorded)))
+      ∙ ap (wordOf (kindOf c)) (sym (records-one c (t .float) (t .units) (t .recorded)))
 
-  value-there : (c : Channel) → sheetValue sheet k (kindOf c) ≡ number c
-  value-there c = ap wordValue (stands-at c ∙ stood c) ∙ word-value (kindOf c) (number c) (held c)
+  value-there : (c : Channel) → sheetValue sheet k (kindOf c) ≡ units c
+  value-there c = ap wordValue (stands-at c ∙ stood c) ∙ word-value (kindOf c) (units c) (held c)
 
   kind-there : (c : Channel) → sheetKind sheet k (kindOf c) ≡ kindOf c
-  kind-there c = ap wordKind (stands-at c ∙ stood c) ∙ word-kind (kindOf c) (number c) (held c)
+  kind-there c = ap wordKind (stands-at c ∙ stood c) ∙ word-kind (kindOf c) (units c) (held c)
 
-  within-there : (c : Channel) → Within (columnOf c) (sheetValue sheet k (kindOf c))
+  -- the number that the columns have for its value
+  within-there : (c : Channel) → Within (columnOf c) (columnOf c .step * sheetValue sheet k (kindOf c))
   within-there c = rw (value-there c) (good-there c .recorded .within)
 
   taken-there : TakenIn sheet k
-  unfolding sheetHour
+  unfolding sheetHourIn
   taken-there = record {
     so2-kind = kind-there So2;
     nox-kind = kind-there Nox;
     co2-kind = kind-there Co2;
     flow-kind = kind-there Flow;
-    so2 = within-there So2;
-    nox = within-there Nox;
-    co2 = within-there Co2;
+    so2 = omega (arith, within-there So2);
+    nox = omega (arith, within-there Nox);
+    co2 = omega (arith, within-there Co2);
     flow = within-there Flow;
   }
 
@@ -190,7 +189,7 @@ module _ (h : RecorderHour) (w : HourWords) (g : Given h w) (sheet : List ℕ) (
       Records (recordingUnit c) (unroundedReading (readingOf c h)) (channelCount c (hour .readings))
   records-there hour o c =
       let t = good-there c in
-      rw (o .readings, reads-exact (readingOf c h) (t .float) (t .reads), count-read c sheet k (t .units) (value-there c)) (t .recorded .records)
+      rw (o .readings, reads-exact (readingOf c h) (t .float) (t .reads), count-read c sheet k, value-there c) (t .recorded .records)
 
   rounds-there : (hour : Hour) → HourOf sheet k hour → (q : Quantity) → RoundsTo q hour (entryOf q (setOf (unroundedOf h)))
   rounds-there hour o Heat = record { left = records-there hour o Co2; right = records-there hour o Flow }

@@ -38,12 +38,12 @@ module _ (c : Channel) (x : Float) where
 
 module _ (c : Channel) (x : Float) (r : Tried) where
   pub measured-tries : FloatTried c x r → Tries c (Measured x) r
-  measured-tries t = record { fault = t .fault; held = t .held; word = λ z. ap (wordOf (kindOf c)) (t .value z) }
+  measured-tries t = record { fault = t .fault; held = t .held; word = λ z. ap (wordOf (kindOf c)) (t .units z) }
 
   pub substituted-tries : FloatTried c x r → Tries c (Substituted x) r
-  substituted-tries t = record { fault = t .fault; held = t .held; word = λ z. ap (wordOf (kindOf c)) (t .value z) }
+  substituted-tries t = record { fault = t .fault; held = t .held; word = λ z. ap (wordOf (kindOf c)) (t .units z) }
 
-pub absent-tries : (c : Channel) → Tries c Absent (record { fault = 44; value = 0 })
+pub absent-tries : (c : Channel) → Tries c Absent (record { fault = 44; units = 0 })
 absent-tries c = record { fault = refl; held = lit< tt; word = λ z. absurd (omega arith) }
 
 -- the first fault of an hour

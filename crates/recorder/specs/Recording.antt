@@ -67,7 +67,7 @@ readingOf Nox h = h .nox
 readingOf Co2 h = h .co2
 readingOf Flow h = h .flow
 
--- the number that stands for a float in its columns: as many of their steps as it has units
+-- the number that stands for a float in its columns, which 46 tries: as many of their steps as it has units
 abbrev pub columnNumber : Channel → Float → ℕ
 columnNumber c x = columnOf c .step * unitsIn (recordingUnit c) x
 
@@ -86,10 +86,10 @@ abbrev pub firstFault : RecorderHour → List Channel → ℕ
 firstFault h [] = 0
 firstFault h (c ∷ cs) = faultOf c (readingOf c h) orElse firstFault h cs
 
--- a reading's word
+-- a reading's word: so many units
 abbrev pub wordFor : Channel → RecorderReading → ℕ
-wordFor c (Measured x) = wordOf (kindOf c) (columnNumber c x)
-wordFor c (Substituted x) = wordOf (kindOf c) (columnNumber c x)
+wordFor c (Measured x) = wordOf (kindOf c) (unitsIn (recordingUnit c) x)
+wordFor c (Substituted x) = wordOf (kindOf c) (unitsIn (recordingUnit c) x)
 wordFor c Absent = 0
 
 abbrev pub substitutedIn : RecorderReading → ℕ

@@ -89,10 +89,10 @@ struct ChannelRow {
     unit: RecordingUnit,
 }
 
-// A reading tried: the number that stands in its columns, or 44, 45 or 46 in `fault`.
+// A reading tried: its units, or 44, 45 or 46 in `fault`.
 struct Tried {
     fault: u64,
-    value: u64,
+    units: u64,
 }
 
 // A float taken apart by its bits. Those of a NaN say nothing, so it is told before they are asked for.
@@ -159,7 +159,7 @@ fn count_at(p: Parts, u: RecordingUnit) -> u64
     exact::half_up(u.den * p.significand, u.num << places)
 }
 
-// 45, 46 or the number. A float from 2^52 on lies beyond every range, and nothing is formed of it.
+// 45, 46 or the units. A float from 2^52 on lies beyond every range, and nothing is formed of it.
 fn float_tried(c: Channel, x: f64) -> Tried
     ensures { λ r. ⌜ FloatTried c x r ⌝ }
 {
@@ -167,24 +167,24 @@ fn float_tried(c: Channel, x: f64) -> Tried
     if !p.usable {
         return Tried {
             fault: 45,
-            value: 0,
+            units: 0,
         };
     }
     if p.exponent >= SCALE {
         return Tried {
             fault: 46,
-            value: 0,
+            units: 0,
         };
     }
     let row = channel_row(c);
-    let value = row.column.step * count_at(p, row.unit);
-    if !values::in_range(row.column, value) {
+    let units = count_at(p, row.unit);
+    if !values::in_range(row.column, row.column.step * units) {
         return Tried {
             fault: 46,
-            value: 0,
+            units: 0,
         };
     }
-    Tried { fault: 0, value }
+    Tried { fault: 0, units }
 }
 
 fn reading_tried(c: Channel, reading: RecorderReading) -> Tried
@@ -195,7 +195,7 @@ fn reading_tried(c: Channel, reading: RecorderReading) -> Tried
         RecorderReading::Substituted(x) => float_tried(c, x),
         RecorderReading::Absent => Tried {
             fault: 44,
-            value: 0,
+            units: 0,
         },
     }
 }
@@ -235,10 +235,10 @@ pub fn hour_words(h: RecorderHour) -> Recorded
         return Recorded::Refused(flow.fault);
     }
     Recorded::Words(HourWords {
-        so2: sheet::word_of(sheet::SO2_KIND, so2.value),
-        nox: sheet::word_of(sheet::NOX_KIND, nox.value),
-        co2: sheet::word_of(sheet::CO2_KIND, co2.value),
-        flow: sheet::word_of(sheet::FLOW_KIND, flow.value),
+        so2: sheet::word_of(sheet::SO2_KIND, so2.units),
+        nox: sheet::word_of(sheet::NOX_KIND, nox.units),
+        co2: sheet::word_of(sheet::CO2_KIND, co2.units),
+        flow: sheet::word_of(sheet::FLOW_KIND, flow.units),
         substituted: substituted(so2_reading)
             + substituted(nox_reading)
             + substituted(co2_reading)

@@ -16,9 +16,10 @@ use Rattle.calendar.specs.Calendar.{hoursInQuarter}
 use Rattle.layout.specs.Values.{Within, within, yearDigits, quarterDigit, timeHours, so2Ppm, noxPpm, co2Percent, flowScfh, fFactor}
 use Rattle.layout.specs.LayoutLaws.{within-true, true-within}
 use Rattle.columns.specs.EachLaws.{printable-says, says-printable, named-told}
-use Rattle.sheet.specs.Sheet.{hourWords, sheetKind, sheetHour, sheetHourCount, sheetHours}
-use Rattle.sheet.specs.SheetTests.{every, headingHolds, kindsRise, hourKinds, kindsHold, hourHolds, hoursRise, sheetHolds, readingsHold}
-use Rattle.sheet.specs.SheetClauses.{kindAt, hourAt, EachHour, headingClauses, shapeClauses, ValuesInRange, valueClauses}
+use Rattle.sheet.specs.Sheet.{hourWords, SheetForm, presentForm, sheetKindIn, sheetHour, sheetHourIn, sheetHourCount, sheetHours, sheetHoursIn}
+use Rattle.sheet.specs.SheetTests.{every, headingHolds, kindsRiseIn, hourKindsIn, kindsHold, kindsHoldIn, hourHolds, hoursRise}
+use Rattle.sheet.specs.SheetTests.{sheetHolds, sheetHoldsIn, readingsHold, readingsHoldIn}
+use Rattle.sheet.specs.SheetClauses.{hourAt, EachHour, headingClauses, shapeClauses, ValuesInRange, valueClauses}
 use Rattle.sheet.specs.TestLaws.{every-hour, hour-every, rise-first, rise-hour, readings-true}
 use Rattle.sheet.specs.declared.SheetHour.{SheetHour}
 
@@ -58,27 +59,29 @@ module _ (sheet : List ℕ) where
   say-words : (n : ℕ) × (length sheet ≡ 6 * n) → eqb (length sheet % hourWords) 0 ≡ true
   say-words n = eq-eqb (length sheet % hourWords) 0 (omega (arith, n .1))
 
-  abbrev Kinds : ℕ → Type 0
-  Kinds k = (j : ℕ) → j < 6 → kindAt sheet k j ≡ j
+  -- of any form
+  module _ (f : SheetForm) where
+    abbrev Kinds : ℕ → Type 0
+    Kinds k = (j : ℕ) → j < hourWords → sheetKindIn f sheet k j ≡ j
 
-  kinds-say : kindsHold sheet 0 (sheetHourCount sheet) ≡ true → EachHour sheet Kinds
-  unfolding kindsHold kindsRise
-  kinds-say e k h j l =
-      let own = counted-each (hourKinds sheet) (kindsHold sheet) (λ k. refl) (λ k left. refl) (sheetHourCount sheet) e k (omega arith) in
-      eqb-true _ _ (counted-each (λ j. eqb (sheetKind sheet k j) j) (kindsRise sheet k) (λ j. refl) (λ j left. refl) hourWords own j l)
+    pub kinds-say : kindsHoldIn f sheet 0 (sheetHourCount sheet) ≡ true → EachHour sheet Kinds
+    unfolding kindsHoldIn kindsRiseIn
+    kinds-say e k h j l =
+        let own = counted-each (hourKindsIn f sheet) (kindsHoldIn f sheet) (λ k. refl) (λ k left. refl) (sheetHourCount sheet) e k (omega arith) in
+        eqb-true _ _ (counted-each (λ j. eqb (sheetKindIn f sheet k j) j) (kindsRiseIn f sheet k) (λ j. refl) (λ j left. refl) hourWords own j l)
 
-  say-kinds : EachHour sheet Kinds → kindsHold sheet 0 (sheetHourCount sheet) ≡ true
-  unfolding kindsHold kindsRise
-  say-kinds each =
-      each-counted (hourKinds sheet) (kindsHold sheet) (λ k. refl) (λ k left. refl) (sheetHourCount sheet)
-      (λ k h. each-counted (λ j. eqb (sheetKind sheet k j) j) (kindsRise sheet k) (λ j. refl) (λ j left. refl) hourWords
-      (λ j l. eq-eqb _ _ (each k (omega arith) j l)))
+    pub say-kinds : EachHour sheet Kinds → kindsHoldIn f sheet 0 (sheetHourCount sheet) ≡ true
+    unfolding kindsHoldIn kindsRiseIn
+    say-kinds each =
+        each-counted (hourKindsIn f sheet) (kindsHoldIn f sheet) (λ k. refl) (λ k left. refl) (sheetHourCount sheet)
+        (λ k h. each-counted (λ j. eqb (sheetKindIn f sheet k j) j) (kindsRiseIn f sheet k) (λ j. refl) (λ j left. refl) hourWords
+        (λ j l. eq-eqb _ _ (each k (omega arith) j l)))
 
   -- hours that rise below a number
   module _ (below : ℕ) where
     later-from : (from k left : ℕ) → hoursRise below from (ranked (sheetHour sheet) k left) ≡ true → (j : ℕ) → suc j < left →
         hourAt sheet (k + j) < hourAt sheet (k + suc j)
-    unfolding ranked sheetHour
+    unfolding ranked sheetHourIn
     later-from from k zero e j h = absurd (omega arith)
     later-from from k (suc zero) e j h = absurd (omega arith)
     later-from from k (suc (suc left)) e zero h =
@@ -95,7 +98,7 @@ module _ (sheet : List ℕ) where
 
     from-later : (from k left : ℕ) → (1 ≤ left → from ≤ hourAt sheet k) → ((j : ℕ) → j < left → hourAt sheet (k + j) < below) →
         ((j : ℕ) → suc j < left → hourAt sheet (k + j) < hourAt sheet (k + suc j)) → hoursRise below from (ranked (sheetHour sheet) k left) ≡ true
-    unfolding ranked sheetHour hoursRise hourHolds
+    unfolding ranked sheetHourIn hoursRise hourHolds
     from-later from k zero first each later = refl
     from-later from k (suc left) first each later =
         let z : k + 0 ≡ k = omega arith in
@@ -115,7 +118,7 @@ module _ (sheet : List ℕ) where
     Later k = 1 ≤ k → hourAt sheet (k - 1) < hourAt sheet k
 
     rise-says : hoursRise below 0 (sheetHours sheet) ≡ true → EachHour sheet (λ k. hourAt sheet k < below) × EachHour sheet Later
-    unfolding sheetHours sheetHour
+    unfolding sheetHoursIn sheetHourIn
     rise-says e = ((λ k h. rise-hour below sheet k e (omega arith)), later)
       where
         later : EachHour sheet Later
@@ -127,7 +130,7 @@ module _ (sheet : List ℕ) where
             rw m (rw (z, s) at (later-from 0 0 (sheetHourCount sheet) e k (omega arith)))
 
     says-rise : EachHour sheet (λ k. hourAt sheet k < below) → EachHour sheet Later → hoursRise below 0 (sheetHours sheet) ≡ true
-    unfolding sheetHours
+    unfolding sheetHoursIn
     says-rise each later =
         from-later 0 0 (sheetHourCount sheet) (λ h. omega arith) (λ j h. let z : 0 + j ≡ j = omega arith in rw z (each j (omega arith)))
         (λ j h.
@@ -138,7 +141,7 @@ module _ (sheet : List ℕ) where
 
     rise-told : Told (unless (hoursRise below 0 (sheetHours sheet)) 31)
         (clause 31 (EachHour sheet (λ k. hourAt sheet k < below)) ∷ clause 31 (EachHour sheet Later) ∷ [])
-    unfolding sheetHour
+    unfolding sheetHourIn
     rise-told =
         told-two (every (λ h. ltb (h .hour) below) (sheetHours sheet)) (hoursRise below 0 (sheetHours sheet)) 30 _ _
         (λ e k h. ltb-true _ _ (each-says (λ h. ltb (h .hour) below) e k h))
@@ -149,7 +152,7 @@ module _ (sheet : List ℕ) where
 
 module _ (year quarter : ℕ) (name sheet : List ℕ) where
   pub shape-told : Told (unless (sheetHolds year quarter name sheet) 31) (shapeClauses year quarter name sheet)
-  unfolding sheetHolds
+  unfolding sheetHoldsIn
   shape-told =
       let heading = headingHolds year quarter name in
       let words = eqb (length sheet % hourWords) 0 in
@@ -159,14 +162,14 @@ module _ (year quarter : ℕ) (name sheet : List ℕ) where
       (told-both (heading && words) kinds 30 (headingClauses year quarter name ++ (clause 31 _ ∷ [])) (clause 31 _ ∷ [])
       (told-both heading words 30 (headingClauses year quarter name) (clause 31 _ ∷ []) (heading-told year quarter name)
       (told-one words 30 _ (words-say sheet) (say-words sheet)))
-      (told-one kinds 30 _ (kinds-say sheet) (say-kinds sheet)))
+      (told-one kinds 30 _ (kinds-say sheet presentForm) (say-kinds sheet presentForm)))
       (rise-told sheet (hoursInQuarter year quarter))
 
 -- 32
 
 module _ (sheet : List ℕ) where
   values-say : (k : ℕ) → readingsHold (sheetHour sheet k) ≡ true → ValuesInRange sheet k
-  unfolding sheetHour
+  unfolding sheetHourIn
   values-say k e =
       let w = readings-true (sheetHour sheet k) e in
       let r = w .2 in
@@ -175,19 +178,18 @@ module _ (sheet : List ℕ) where
         so2 = r .so2 .most;
         nox = r .nox .most;
         co2 = (r .co2 .least, r .co2 .most);
-        flow = w .1 .most;
-        thousands = w .1 .steps;
+        flow = omega (arith, w .1 .most);
         fc = (r .fc .least, r .fc .most);
       }
 
   say-values : (k : ℕ) → ValuesInRange sheet k → readingsHold (sheetHour sheet k) ≡ true
-  unfolding sheetHour readingsHold
+  unfolding sheetHourIn readingsHoldIn
   say-values k v =
       let t : Within timeHours (sheetHour sheet k .time) = omega arith in
       let a : Within so2Ppm (sheetHour sheet k .so2) = omega arith in
       let b : Within noxPpm (sheetHour sheet k .nox) = omega arith in
       let c : Within co2Percent (sheetHour sheet k .co2) = omega arith in
-      let d : Within flowScfh (sheetHour sheet k .scfh) = record { least = omega arith; most = v .flow; steps = v .thousands } in
+      let d : Within flowScfh (sheetHour sheet k .scfh) = omega arith in
       let f : Within fFactor (sheetHour sheet k .fc) = omega arith in
       rw (true-within _ _ t, true-within _ _ a, true-within _ _ b) (rw (true-within _ _ c, true-within _ _ d, true-within _ _ f) refl)
 

@@ -47,14 +47,13 @@ shapeClauses year quarter name sheet =
     ∷ clause 31 (EachHour sheet (λ k. 1 ≤ k → hourAt sheet (k - 1) < hourAt sheet k))
     ∷ [])
 
--- hundredths of an hour; tenths of ppm, ppm and percent; scfh; tenths of scf/mmBtu
+-- hundredths of an hour; tenths of ppm, ppm and percent; thousands of scfh; tenths of scf/mmBtu
 pub record ValuesInRange (sheet : List ℕ) (k : ℕ) : Type 0 where
   pub time : (1 ≤ timeAt sheet k) × (timeAt sheet k ≤ 100)
   pub so2 : valueAt sheet k 1 ≤ 99_999
   pub nox : valueAt sheet k 2 ≤ 99_999
   pub co2 : (1 ≤ valueAt sheet k 3) × (valueAt sheet k 3 ≤ 1000)
-  pub flow : valueAt sheet k 4 ≤ 500_000_000
-  pub thousands : valueAt sheet k 4 % 1000 ≡ 0
+  pub flow : valueAt sheet k 4 ≤ 9_999_999
   pub fc : (5000 ≤ valueAt sheet k 5) × (valueAt sheet k 5 ≤ 30_000)
 
 abbrev pub valueClauses : List ℕ → List Clause

@@ -5,7 +5,7 @@ use mathlib.Core.List.{List}
 use native.Mathlib.Omega.{arith}
 use lib.ListN.{length}
 use Rattle.exact.specs.Logic.{ranked, ranked-length, ranked-whole}
-use Rattle.sheet.specs.Sheet.{valueSize, wordKind, wordValue, apart, wordOf, sheetHour, sheetHourCount, sheetHours}
+use Rattle.sheet.specs.Sheet.{valueSize, wordKind, wordValue, apart, wordOf, sheetHour, sheetHourCount, sheetHours, sheetHoursIn}
 
 pub word-kind : (kind value : ℕ) → value < valueSize → wordKind (wordOf kind value) ≡ kind
 word-kind kind value h = omega arith
@@ -17,9 +17,9 @@ pub word-apart : (kind value : ℕ) → value < valueSize → apart (wordOf kind
 word-apart kind value h = rw (word-kind kind value h, word-value kind value h)
 
 pub sheet-hours-count : (sheet : List ℕ) → length (sheetHours sheet) ≡ sheetHourCount sheet
-unfolding sheetHours
+unfolding sheetHoursIn
 sheet-hours-count sheet = ranked-length (sheetHour sheet) 0 (sheetHourCount sheet)
 
 pub sheet-hours-whole : (sheet : List ℕ) → ranked (sheetHour sheet) 0 (sheetHourCount sheet - 0) ≡ sheetHours sheet
-unfolding sheetHours
+unfolding sheetHoursIn
 sheet-hours-whole sheet = ranked-whole (sheetHour sheet) (sheetHourCount sheet)

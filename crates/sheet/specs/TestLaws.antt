@@ -14,8 +14,8 @@ use Rattle.layout.specs.Values.{Within, timeHours, flowScfh, scfhOf}
 use Rattle.layout.specs.LayoutLaws.{within-true, scfh-back, flow-within}
 use Rattle.formulas.specs.Hour.{ReadingsWithin}
 use Rattle.stamp.specs.StampLaws.{is-quarter}
-use Rattle.sheet.specs.Sheet.{hourWords, sheetHour, recordedReadings, sheetHourCount, shapeOf, sheetHours}
-use Rattle.sheet.specs.SheetTests.{Heading, every, headingHolds, kindsHold, hourHolds, hoursRise, sheetHolds, readingsHold}
+use Rattle.sheet.specs.Sheet.{hourWords, sheetHour, recordedReadings, sheetHourCount, shapeOf, sheetHours, sheetHoursIn}
+use Rattle.sheet.specs.SheetTests.{Heading, every, headingHolds, kindsHold, hourHolds, hoursRise, sheetHolds, readingsHold, sheetHoldsIn, readingsHoldIn}
 use Rattle.sheet.specs.SheetLaws.{sheet-hours-count}
 use Rattle.sheet.specs.declared.SheetHour.{SheetHour}
 
@@ -35,7 +35,7 @@ pub record Shaped (year quarter : ℕ) (name sheet : List ℕ) : Type 0 where
   pub rises : hoursRise (hoursInQuarter year quarter) 0 (sheetHours sheet) ≡ true
 
 pub sheet-true : (year quarter : ℕ) (name sheet : List ℕ) → sheetHolds year quarter name sheet ≡ true → Shaped year quarter name sheet
-unfolding sheetHolds
+unfolding sheetHoldsIn
 sheet-true year quarter name sheet e =
     let a = both _ _ e in
     let b = both _ _ (a .0) in
@@ -51,11 +51,11 @@ module _ (p : SheetHour → Bool) (sheet : List ℕ) where
   holdFrom k left = every p (ranked (sheetHour sheet) k left)
 
   pub every-hour : (k : ℕ) → every p (sheetHours sheet) ≡ true → k < sheetHourCount sheet → p (sheetHour sheet k) ≡ true
-  unfolding sheetHours every ranked
+  unfolding sheetHoursIn every ranked
   every-hour k e h = counted-each holdsAt holdFrom (λ k. refl) (λ k left. refl) (sheetHourCount sheet) e k h
 
   pub hour-every : ((k : ℕ) → k < sheetHourCount sheet → p (sheetHour sheet k) ≡ true) → every p (sheetHours sheet) ≡ true
-  unfolding sheetHours every ranked
+  unfolding sheetHoursIn every ranked
   hour-every each = each-counted holdsAt holdFrom (λ k. refl) (λ k left. refl) (sheetHourCount sheet) each
 
 -- hours that rise below a number are no more than it, and each is below it
@@ -91,7 +91,7 @@ module _ (below : ℕ) where
       rw s (rise-at (suc (sheetHour sheet k .hour)) sheet (suc k) left j (r .2) (omega arith))
 
   pub rise-hour : (sheet : List ℕ) (k : ℕ) → hoursRise below 0 (sheetHours sheet) ≡ true → k < sheetHourCount sheet → sheetHour sheet k .hour < below
-  unfolding sheetHours
+  unfolding sheetHoursIn
   rise-hour sheet k e h =
       let z : 0 + k ≡ k = omega arith in
       rw z at (rise-at 0 sheet 0 (sheetHourCount sheet) k e h)
@@ -105,7 +105,7 @@ shape-held year quarter name sheet s =
 -- an hour that 32 does not refuse
 pub readings-true : (h : SheetHour) → readingsHold h ≡ true →
     Within timeHours (h .time) × Within flowScfh (h .scfh) × ReadingsWithin (recordedReadings h)
-unfolding readingsHold
+unfolding readingsHoldIn
 readings-true h e =
     let a = both _ _ e in
     let b = both _ _ (a .0) in
@@ -124,6 +124,6 @@ readings-true h e =
       },
     )
 
--- its flow, as it is recorded, is the number of scfh that its word has
+-- its flow, as it is recorded, is the number of scfh that the hour has
 pub flow-word : (h : SheetHour) → readingsHold h ≡ true → scfhOf (recordedReadings h .flow) ≡ h .scfh
 flow-word h e = scfh-back (h .scfh) (readings-true h e .1)

@@ -83,7 +83,7 @@ pub fn hour_at(sheet: &[u32], k: usize) -> SheetHour
         so2: word_value(sheet, first + 1),
         nox: word_value(sheet, first + 2),
         co2: word_value(sheet, first + 3),
-        scfh: word_value(sheet, first + 4),
+        scfh: values::FLOW_SCFH.step * word_value(sheet, first + 4),
         fc: word_value(sheet, first + 5),
     }
 }

@@ -10,9 +10,9 @@ use borrow.Author.Tests.{eq-eqb, ne-eqb, le-leb, lt-leb}
 use Rattle.exact.specs.Faults.{_orElse_, unless}
 use Rattle.calendar.specs.Calendar.{hoursInQuarter}
 use Rattle.layout.specs.Layout.{reportLength}
-use Rattle.sheet.specs.Sheet.{hourWords, sheetHourCount, shapeOf, sheetHours}
-use Rattle.sheet.specs.SheetTests.{every, headingHolds, kindsHold, hoursRise, sheetHolds, readingsHold}
-use Rattle.writer.specs.Refusals.{figuresFit, refusalOf}
+use Rattle.sheet.specs.Sheet.{hourWords, sheetHourCount, shapeOf, sheetHours, sheetHoursIn}
+use Rattle.sheet.specs.SheetTests.{every, headingHolds, kindsHold, hoursRise, sheetHolds, readingsHold, sheetHoldsIn}
+use Rattle.writer.specs.Refusals.{figuresFit, refusalOf, refusalIn}
 use Rattle.writer.specs.OnePass.{valuesRefusal, hoursRefusal, firstTried, inOrder, refusalFrom}
 
 -- what the pass finds over all hours
@@ -21,27 +21,27 @@ passed year quarter sheet = refusalFrom (hoursInQuarter year quarter) sheet 0 (s
 
 module _ (year quarter : ℕ) (name sheet : List ℕ) (room : ℕ) where
   unshaped : sheetHolds year quarter name sheet ≡ false → 31 ≡ refusalOf year quarter name sheet room
-  unfolding refusalOf
-  unshaped e = rw (e, refusalOf)
+  unfolding refusalIn
+  unshaped e = rw (e, refusalIn)
 
   pub heading-wrong : headingHolds year quarter name ≡ false → 31 ≡ refusalOf year quarter name sheet room
-  unfolding sheetHolds
+  unfolding sheetHoldsIn
   heading-wrong e = unshaped (rw e)
 
   pub words-wrong : headingHolds year quarter name ≡ true → (length sheet % hourWords ≡ 0 → ⊥) → 31 ≡ refusalOf year quarter name sheet room
-  unfolding sheetHolds
+  unfolding sheetHoldsIn
   words-wrong e w = unshaped (rw (e, ne-eqb _ _ w))
 
   module _ (e : headingHolds year quarter name ≡ true) (w : length sheet % hourWords ≡ 0) where
     shaped : sheetHolds year quarter name sheet ≡ (kindsHold sheet 0 (sheetHourCount sheet) && hoursRise (hoursInQuarter year quarter) 0 (sheetHours sheet))
-    unfolding sheetHolds
+    unfolding sheetHoldsIn
     shaped = rw (e, eq-eqb _ _ w)
 
     -- 34 is tried last
     told : refusalOf year quarter name sheet room ≡ (passed year quarter sheet orElse unless (leb (reportLength (shapeOf sheet)) room) 34)
-    unfolding refusalOf refusalFrom inOrder hoursRefusal sheetHours firstTried
+    unfolding refusalIn refusalFrom inOrder hoursRefusal sheetHoursIn firstTried
     told =
-        rw (shaped, refusalOf)
+        rw (shaped, refusalIn)
         (go (kindsHold sheet 0 (sheetHourCount sheet)) (hoursRise (hoursInQuarter year quarter) 0 (sheetHours sheet)) (every readingsHold (sheetHours sheet))
         (every figuresFit (sheetHours sheet)))
       where
@@ -70,7 +70,7 @@ module _ (year quarter : ℕ) (name sheet : List ℕ) (room : ℕ) where
       room-enough h = sym (told ∙ rw (f, le-leb _ _ (rw b at h)))
 
     pub none-found : passed year quarter sheet ≡ 0 → sheetHolds year quarter name sheet ≡ true
-    unfolding refusalFrom inOrder sheetHours
+    unfolding refusalFrom inOrder sheetHoursIn
     none-found f = shaped ∙ go (kindsHold sheet 0 (sheetHourCount sheet)) (hoursRise (hoursInQuarter year quarter) 0 (sheetHours sheet)) _ f
       where
         go : (a b : Bool) (values : ℕ) → inOrder a b values ≡ 0 → (a && b) ≡ true

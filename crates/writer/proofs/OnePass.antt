@@ -8,7 +8,7 @@ use native.Mathlib.Numerals.{add-one}
 use native.Mathlib.Omega.{arith}
 use Rattle.exact.specs.Logic.{ranked, ranked-next, ranked-end}
 use Rattle.sheet.specs.Sheet.{sheetHour}
-use Rattle.sheet.specs.SheetTests.{every, hourKinds, kindsHold, hourHolds, hoursRise, readingsHold}
+use Rattle.sheet.specs.SheetTests.{every, hourKinds, kindsHold, hourHolds, hoursRise, readingsHold, kindsHoldIn}
 use Rattle.sheet.specs.declared.SheetHour.{SheetHour}
 use Rattle.writer.specs.Refusals.{figuresFit}
 use Rattle.writer.specs.OnePass.{valuesRefusal, hourRefusal, hoursRefusal, firstTried, inOrder, refusalFrom}
@@ -59,13 +59,13 @@ hours-first h hs = go (readingsHold h) (figuresFit h) (every readingsHold hs) (e
 -- of n hours, those from hour k on
 module _ (sheet : List ℕ) (n k : ℕ) where
   kinds-next : k < n → kindsHold sheet k (n - k) ≡ (hourKinds sheet k && kindsHold sheet (k + 1) (n - (k + 1)))
-  unfolding kindsHold
+  unfolding kindsHoldIn
   kinds-next h =
       let s : n - k ≡ suc (n - (k + 1)) = omega arith in
       rw (s, add-one k)
 
   kinds-end : n ≤ k → kindsHold sheet k (n - k) ≡ true
-  unfolding kindsHold
+  unfolding kindsHoldIn
   kinds-end h =
       let s : n - k ≡ 0 = omega arith in
       rw s

@@ -15,11 +15,11 @@ use Rattle.layout.specs.Values.{within}
 use Rattle.stamp.specs.Stamp.{stampNumber, stampOf}
 use Rattle.formulas.specs.Formulas.{roundedValue, roundedFigures}
 use Rattle.totals.specs.Totals.{totalsOf, meanOf, quarterOf, quarterTotals}
-use Rattle.sheet.specs.Sheet.{sheetHour, sheetHours}
-use Rattle.sheet.specs.SheetTests.{every, headingHolds, kindsRise, kindsHold, hourHolds, hoursRise, sheetHolds, readingsHold}
-use Rattle.writer.specs.Refusals.{figuresHold, refusalOf}
+use Rattle.sheet.specs.Sheet.{sheetHourIn, sheetHoursIn}
+use Rattle.sheet.specs.SheetTests.{every, headingHolds, hourHolds, hoursRise, kindsHoldIn, kindsRiseIn, readingsHoldIn, sheetHoldsIn}
+use Rattle.writer.specs.Refusals.{figuresHold, refusalIn}
 use Rattle.records.specs.Records.{headed, valued, facilityRecord, totalsRecord}
-use Rattle.writer.specs.Written.{hourRecord, writtenRecords, lined, report, answered, buffered}
+use Rattle.writer.specs.Written.{hourRecord, writtenRecords, lined, report, answered, buffered, answeredIn, bufferedIn}
 use Rattle.writer.specs.declared.Written.{Written}
 use Rattle.writer.specs.declared.Written.the-variants.{Length, Refused}
 
@@ -27,19 +27,19 @@ use Rattle.writer.specs.declared.Written.the-variants.{Length, Refused}
 abbrev pub stack : List ℕ
 stack = 83 ∷ 84 ∷ 65 ∷ 67 ∷ 75 ∷ 49 ∷ []
 
--- hour 0 for 0.50 hours, SO2 250.0, NOx 200.0, CO2 12.0, a flow, Fc 1,800.0
-abbrev sheetWith : (scfh : ℕ) → List ℕ
-sheetWith scfh =
+-- hour 0 for 0.50 hours, SO2 250.0, NOx 200.0, CO2 12.0, a flow in thousands of scfh, Fc 1,800.0
+abbrev pub sheetWith : (flow : ℕ) → List ℕ
+sheetWith flow =
     (0 * 2 ^ 29 + 50)
     ∷ (1 * 2 ^ 29 + 2500)
     ∷ (2 * 2 ^ 29 + 2000)
     ∷ (3 * 2 ^ 29 + 120)
-    ∷ (4 * 2 ^ 29 + scfh)
+    ∷ (4 * 2 ^ 29 + flow)
     ∷ (5 * 2 ^ 29 + 18_000)
     ∷ []
 
 abbrev pub workedSheet : List ℕ
-workedSheet = sheetWith 20_000_000
+workedSheet = sheetWith 20_000
 
 -- 2005, quarter 3
 unfoldable pub worked : List ℕ
@@ -69,29 +69,29 @@ empty =
 
 pub worked-written : (answered 2005 3 stack workedSheet 393 ≡ Length 393) × (buffered 2005 3 stack workedSheet (replicate 393 0) ≡ worked)
 unfolding worked all put digitsOf digitOrBlank leading wholeWritten fixedWritten written leapYear daysInMonth daysInQuarter hoursInQuarter daysBefore
-    monthOfDay dateOfHour over totalOf stampNumber stampOf roundedValue roundedFigures totalsOf meanOf quarterOf quarterTotals sheetHour ranked
-    sheetHours reportLength within every headingHolds kindsRise kindsHold hourHolds hoursRise sheetHolds readingsHold figuresHold
-    refusalOf headed valued facilityRecord hourRecord totalsRecord writtenRecords lined report answered buffered
+    monthOfDay dateOfHour over totalOf stampNumber stampOf roundedValue roundedFigures totalsOf meanOf quarterOf quarterTotals sheetHourIn ranked
+    sheetHoursIn reportLength within every headingHolds kindsRiseIn kindsHoldIn hourHolds hoursRise sheetHoldsIn readingsHoldIn figuresHold
+    refusalIn headed valued facilityRecord hourRecord totalsRecord writtenRecords lined report answeredIn bufferedIn
 worked-written = (refl, refl)
 
--- flows that are no whole thousand, or past the limit, or both, and flows that are taken
+-- flows past the limit, a word of 20,000,000 scfh among them and the largest word; and flows that are taken
 
 abbrev answersTo : List ℕ → List Written
-answersTo flows = map (λ scfh. answered 2005 3 stack (sheetWith scfh) 393) flows
+answersTo flows = map (λ flow. answered 2005 3 stack (sheetWith flow) 393) flows
 
-pub flow-refused : answersTo (20_000_500 ∷ 20_000_001 ∷ 19_999_999 ∷ 1 ∷ 500_001_000 ∷ 500_000_001 ∷ []) ≡ replicate 6 (Refused 32)
-unfolding all leapYear daysInMonth daysInQuarter hoursInQuarter over roundedValue roundedFigures sheetHour ranked sheetHours reportLength within every
-    headingHolds kindsRise kindsHold hourHolds hoursRise sheetHolds readingsHold figuresHold refusalOf answered
+pub flow-refused : answersTo (10_000_000 ∷ 20_000_000 ∷ 536_870_911 ∷ []) ≡ replicate 3 (Refused 32)
+unfolding all leapYear daysInMonth daysInQuarter hoursInQuarter over roundedValue roundedFigures sheetHourIn ranked sheetHoursIn reportLength within every
+    headingHolds kindsRiseIn kindsHoldIn hourHolds hoursRise sheetHoldsIn readingsHoldIn figuresHold refusalIn answeredIn
 flow-refused = refl
 
-pub flow-taken : answersTo (0 ∷ 1000 ∷ 19_999_000 ∷ 500_000_000 ∷ []) ≡ replicate 4 (Length 393)
-unfolding all leapYear daysInMonth daysInQuarter hoursInQuarter over totalOf roundedValue roundedFigures sheetHour ranked sheetHours reportLength within every
-    headingHolds kindsRise kindsHold hourHolds hoursRise sheetHolds readingsHold figuresHold refusalOf answered
+pub flow-taken : answersTo (0 ∷ 1 ∷ 20_000 ∷ 500_000 ∷ 500_001 ∷ 600_000 ∷ []) ≡ replicate 6 (Length 393)
+unfolding all leapYear daysInMonth daysInQuarter hoursInQuarter over totalOf roundedValue roundedFigures sheetHourIn ranked sheetHoursIn reportLength within every
+    headingHolds kindsRiseIn kindsHoldIn hourHolds hoursRise sheetHoldsIn readingsHoldIn figuresHold refusalIn answeredIn
 flow-taken = refl
 
 pub empty-written : (answered 2005 3 stack [] 75 ≡ Length 75) × (buffered 2005 3 stack [] (replicate 75 0) ≡ empty)
 unfolding empty all put digitsOf digitOrBlank leading wholeWritten fixedWritten written leapYear daysInMonth daysInQuarter hoursInQuarter daysBefore
-    monthOfDay dateOfHour over totalOf stampNumber stampOf roundedValue roundedFigures totalsOf meanOf quarterOf quarterTotals sheetHour ranked
-    sheetHours reportLength within every headingHolds kindsRise kindsHold hourHolds hoursRise sheetHolds readingsHold figuresHold
-    refusalOf headed valued facilityRecord hourRecord totalsRecord writtenRecords lined report answered buffered
+    monthOfDay dateOfHour over totalOf stampNumber stampOf roundedValue roundedFigures totalsOf meanOf quarterOf quarterTotals sheetHourIn ranked
+    sheetHoursIn reportLength within every headingHolds kindsRiseIn kindsHoldIn hourHolds hoursRise sheetHoldsIn readingsHoldIn figuresHold
+    refusalIn headed valued facilityRecord hourRecord totalsRecord writtenRecords lined report answeredIn bufferedIn
 empty-written = (refl, refl)

@@ -8,8 +8,8 @@ use Rattle.layout.specs.Layout.{reportLength}
 use Rattle.layout.specs.Values.{within, heatRate, so2Rate, noxRate, co2Rate}
 use Rattle.formulas.specs.Formulas.{roundedFigures}
 use Rattle.formulas.specs.declared.hour.Figures.{Figures}
-use Rattle.sheet.specs.Sheet.{recordedReadings, shapeOf, sheetHours}
-use Rattle.sheet.specs.SheetTests.{every, sheetHolds, readingsHold}
+use Rattle.sheet.specs.Sheet.{SheetForm, presentForm, recordedReadings, shapeOf, sheetHoursIn}
+use Rattle.sheet.specs.SheetTests.{every, sheetHoldsIn, readingsHoldIn}
 use Rattle.sheet.specs.declared.SheetHour.{SheetHour}
 
 -- 33: every figure fits its columns
@@ -21,9 +21,12 @@ abbrev pub figuresFit : SheetHour → Bool
 figuresFit h = figuresHold (roundedFigures (recordedReadings h))
 
 -- the first refusal of a sheet and a buffer of so many bytes; 0 is none
-unfoldable pub refusalOf : ℕ → ℕ → List ℕ → List ℕ → ℕ → ℕ
-refusalOf year quarter name sheet room =
-    unless (sheetHolds year quarter name sheet) 31
-    orElse unless (every readingsHold (sheetHours sheet)) 32
-    orElse unless (every figuresFit (sheetHours sheet)) 33
+unfoldable pub refusalIn : SheetForm → ℕ → ℕ → List ℕ → List ℕ → ℕ → ℕ
+refusalIn f year quarter name sheet room =
+    unless (sheetHoldsIn f year quarter name sheet) 31
+    orElse unless (every (readingsHoldIn f) (sheetHoursIn f sheet)) 32
+    orElse unless (every figuresFit (sheetHoursIn f sheet)) 33
     orElse unless (leb (reportLength (shapeOf sheet)) room) 34
+
+abbrev pub refusalOf : ℕ → ℕ → List ℕ → List ℕ → ℕ → ℕ
+refusalOf = refusalIn presentForm

@@ -11,26 +11,26 @@ use Rattle.calendar.specs.Calendar.{leapYear, daysInMonth, daysInQuarter, hours
 use Rattle.layout.specs.Layout.{reportLength}
 use Rattle.layout.specs.Values.{within}
 use Rattle.formulas.specs.Formulas.{roundedValue, roundedFigures}
-use Rattle.sheet.specs.Sheet.{sheetHour, sheetHours}
-use Rattle.sheet.specs.SheetTests.{every, headingHolds, kindsRise, kindsHold, hourHolds, hoursRise, sheetHolds, readingsHold}
+use Rattle.sheet.specs.Sheet.{sheetHourIn, sheetHoursIn}
+use Rattle.sheet.specs.SheetTests.{every, headingHolds, hourHolds, hoursRise, readingsHoldIn, kindsRiseIn, kindsHoldIn, sheetHoldsIn}
 use Rattle.writer.specs.Examples.{stack}
-use Rattle.writer.specs.Refusals.{figuresHold, refusalOf}
-use Rattle.writer.specs.Written.{writtenNumber, answered}
+use Rattle.writer.specs.Refusals.{figuresHold, refusalIn}
+use Rattle.writer.specs.Written.{writtenNumber, answered, answeredIn}
 
 -- a word; the words of an hour of the quarter for this time, with SO2, NOx, CO2, flow and Fc
 
 abbrev word : (kind value : ℕ) → ℕ
 word kind value = kind * 2 ^ 29 + value
 
-abbrev hourWith : (hour time so2 nox co2 scfh fc : ℕ) → List ℕ
-hourWith hour time so2 nox co2 scfh fc =
-    word 0 (hour * 128 + time) ∷ word 1 so2 ∷ word 2 nox ∷ word 3 co2 ∷ word 4 scfh ∷ word 5 fc ∷ []
+abbrev hourWith : (hour time so2 nox co2 flow fc : ℕ) → List ℕ
+hourWith hour time so2 nox co2 flow fc =
+    word 0 (hour * 128 + time) ∷ word 1 so2 ∷ word 2 nox ∷ word 3 co2 ∷ word 4 flow ∷ word 5 fc ∷ []
 
 abbrev plain : (hour time : ℕ) → List ℕ
-plain hour time = hourWith hour time 2500 2000 120 20_000_000 18_000
+plain hour time = hourWith hour time 2500 2000 120 20_000 18_000
 
 abbrev kinds : (a b c d e f : ℕ) → List ℕ
-kinds a b c d e f = word a 50 ∷ word b 2500 ∷ word c 2000 ∷ word d 120 ∷ word e 20_000_000 ∷ word f 18_000 ∷ []
+kinds a b c d e f = word a 50 ∷ word b 2500 ∷ word c 2000 ∷ word d 120 ∷ word e 20_000 ∷ word f 18_000 ∷ []
 
 -- to sheets of 2005, quarter 3, which has 2,208 hours, with room enough
 abbrev numbers : List (List ℕ) → List ℕ
@@ -59,21 +59,24 @@ pub sheet-answers :
     -- time 0.00, 1.01 and 1.27; 0.01 and 1.00
     × (numbers (plain 5 0 ∷ plain 5 101 ∷ plain 5 127 ∷ plain 5 1 ∷ plain 5 100 ∷ []) ≡ 32 ∷ 32 ∷ 32 ∷ 393 ∷ 393 ∷ [])
     -- SO2, NOx, CO2, flow and Fc just outside and at both ends
-    × (numbers (hourWith 0 50 100_000 2000 120 1000 18_000 ∷ hourWith 0 50 2500 100_000 120 1000 18_000 ∷ hourWith 0 50 2500 2000 0 1000 18_000
-    ∷ hourWith 0 50 2500 2000 1001 1000 18_000 ∷ hourWith 0 50 2500 2000 120 500_001_000 18_000 ∷ hourWith 0 50 2500 2000 120 1000 4999
-    ∷ hourWith 0 50 2500 2000 120 1000 30_001 ∷ []) ≡ replicate 7 32)
-    × (numbers (hourWith 0 50 99_999 0 1000 1000 30_000 ∷ hourWith 0 50 0 99_999 1000 1000 5000 ∷ hourWith 0 50 0 0 1 500_000_000 5000 ∷ []) ≡ replicate 3 393)
+    × (numbers (hourWith 0 50 100_000 2000 120 1 18_000 ∷ hourWith 0 50 2500 100_000 120 1 18_000 ∷ hourWith 0 50 2500 2000 0 1 18_000
+    ∷ hourWith 0 50 2500 2000 1001 1 18_000 ∷ hourWith 0 50 2500 2000 120 10_000_000 18_000 ∷ hourWith 0 50 2500 2000 120 1 4999
+    ∷ hourWith 0 50 2500 2000 120 1 30_001 ∷ []) ≡ replicate 7 32)
+    × (numbers (hourWith 0 50 99_999 0 1000 1 30_000 ∷ hourWith 0 50 0 99_999 1000 1 5000 ∷ hourWith 0 50 0 0 1 9_999_999 5000 ∷ []) ≡ replicate 3 393)
+    -- a station of 9,999,999,000 scfh: SO2 of 99,932.0 and 100,098.0 lb/hr, heat of 96,666.7 and of 99,999.99, which rounds to 100,000.0
+    × (numbers (hourWith 0 50 602 0 1 9_999_999 30_000 ∷ hourWith 0 50 603 0 1 9_999_999 30_000 ∷ hourWith 0 50 0 0 29 9_999_999 30_000
+    ∷ hourWith 0 50 0 0 30 9_999_999 30_000 ∷ []) ≡ 393 ∷ 33 ∷ 393 ∷ 33 ∷ [])
     -- SO2 of 99,998.4 and 100,006.7 lb/hr, NOx of 99.974 and 100.009 lb/mmBtu
-    × (numbers (hourWith 0 50 12_048 0 1 500_000_000 30_000 ∷ hourWith 0 50 12_049 0 1 500_000_000 30_000 ∷ hourWith 0 50 0 2791 1 1000 30_000
-    ∷ hourWith 0 50 0 2792 1 1000 30_000 ∷ []) ≡ 393 ∷ 33 ∷ 393 ∷ 33 ∷ [])
+    × (numbers (hourWith 0 50 12_048 0 1 500_000 30_000 ∷ hourWith 0 50 12_049 0 1 500_000 30_000 ∷ hourWith 0 50 0 2791 1 1 30_000
+    ∷ hourWith 0 50 0 2792 1 1 30_000 ∷ []) ≡ 393 ∷ 33 ∷ 393 ∷ 33 ∷ [])
     -- a figure that is too large: heat 100,000.0 and more, NOx 100.000 and more, in the second hour; and the greatest that fit
-    × (numbers (hourWith 0 50 0 0 1000 500_000_000 5000 ∷ hourWith 0 50 0 99_999 1 1000 30_000 ∷ (plain 0 50 ++ hourWith 1 50 0 0 1000 500_000_000 5000)
-    ∷ hourWith 0 50 0 0 1000 49_999_000 5000 ∷ hourWith 0 50 0 0 1000 50_000_000 5000 ∷ []) ≡ 33 ∷ 33 ∷ 33 ∷ 393 ∷ 33 ∷ [])
+    × (numbers (hourWith 0 50 0 0 1000 500_000 5000 ∷ hourWith 0 50 0 99_999 1 1 30_000 ∷ (plain 0 50 ++ hourWith 1 50 0 0 1000 500_000 5000)
+    ∷ hourWith 0 50 0 0 1000 49_999 5000 ∷ hourWith 0 50 0 0 1000 50_000 5000 ∷ []) ≡ 33 ∷ 33 ∷ 33 ∷ 393 ∷ 33 ∷ [])
     -- room for a byte less than the report, and for it
     × (map (λ room. writtenNumber (answered 2005 3 stack (plain 0 50 ++ plain 1 50) room)) (0 ∷ 392 ∷ 710 ∷ 711 ∷ []) ≡ 34 ∷ 34 ∷ 34 ∷ 711 ∷ [])
     -- 31 before 32 before 33 before 34, each over the whole sheet
-    × (map (λ sheet. writtenNumber (answered 2005 3 stack sheet 0)) ((plain 5 0 ++ kinds 0 1 2 3 4 6) ∷ (hourWith 0 50 0 0 1000 500_000_000 5000 ++ plain 5 0)
-    ∷ (plain 0 50 ++ hourWith 1 50 0 0 1000 500_000_000 5000) ∷ plain 0 50 ∷ []) ≡ 31 ∷ 32 ∷ 33 ∷ 34 ∷ [])
-unfolding all leapYear daysInMonth daysInQuarter hoursInQuarter over totalOf roundedValue roundedFigures sheetHour ranked sheetHours reportLength within every
-    headingHolds kindsRise kindsHold hourHolds hoursRise sheetHolds readingsHold figuresHold refusalOf answered
-sheet-answers = (refl, refl, refl, refl, refl, refl, refl, refl, refl, refl, refl, refl, refl, refl, refl, refl, refl)
+    × (map (λ sheet. writtenNumber (answered 2005 3 stack sheet 0)) ((plain 5 0 ++ kinds 0 1 2 3 4 6) ∷ (hourWith 0 50 0 0 1000 500_000 5000 ++ plain 5 0)
+    ∷ (plain 0 50 ++ hourWith 1 50 0 0 1000 500_000 5000) ∷ plain 0 50 ∷ []) ≡ 31 ∷ 32 ∷ 33 ∷ 34 ∷ [])
+unfolding all leapYear daysInMonth daysInQuarter hoursInQuarter over totalOf roundedValue roundedFigures sheetHourIn ranked sheetHoursIn reportLength within every
+    headingHolds kindsRiseIn kindsHoldIn hourHolds hoursRise sheetHoldsIn readingsHoldIn figuresHold refusalIn answeredIn
+sheet-answers = (refl, refl, refl, refl, refl, refl, refl, refl, refl, refl, refl, refl, refl, refl, refl, refl, refl, refl)

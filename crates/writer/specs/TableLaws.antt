@@ -14,8 +14,8 @@ use Rattle.layout.specs.Layout.{shape, reportLength}
 use Rattle.layout.specs.LayoutLaws.{report-length}
 use Rattle.sheet.specs.Sheet.{shapeOf, sheetHours}
 use Rattle.sheet.specs.SheetTests.{every, sheetHolds, readingsHold}
-use Rattle.writer.specs.Refusals.{figuresFit, refusalOf}
-use Rattle.writer.specs.Written.{writtenNumber, shortestReport, answered}
+use Rattle.writer.specs.Refusals.{figuresFit, refusalOf, refusalIn}
+use Rattle.writer.specs.Written.{writtenNumber, shortestReport, answered, answeredIn}
 use Rattle.writer.specs.Writable.{Writable}
 use Rattle.writer.specs.RefusalLaws.{writable}
 use Rattle.writer.specs.WriterClauses.{writerClauses}
@@ -27,7 +27,7 @@ use Rattle.writer.specs.declared.Written.the-variants.{Length, Refused}
 module _ (year quarter : ℕ) (name sheet : List ℕ) (room : ℕ) where
   -- every answer is of a row
   pub answer-in-table : InWriterTable year quarter name sheet room (writtenNumber (answered year quarter name sheet room))
-  unfolding answered
+  unfolding answeredIn
   answer-in-table = go (refusalOf year quarter name sheet room) (refusal-told year quarter name sheet room)
     where
       go : (f : ℕ) → Told f (writerClauses year quarter name sheet room) →
@@ -53,7 +53,7 @@ module _ (year quarter : ℕ) (name sheet : List ℕ) (room : ℕ) where
 
   -- what is not refused can be written, and the buffer has room for it
   pub not-refused : refusalOf year quarter name sheet room ≡ 0 → Writable year quarter name sheet × (reportLength (shapeOf sheet) ≤ room)
-  unfolding refusalOf
+  unfolding refusalIn
   not-refused e =
       let a = or-zero (unless (sheetHolds year quarter name sheet) 31) _ e in
       let b = or-zero (unless (every readingsHold (sheetHours sheet)) 32) _ (a .1) in
@@ -63,7 +63,7 @@ module _ (year quarter : ℕ) (name sheet : List ℕ) (room : ℕ) where
       )
 
   refusal-small : refusalOf year quarter name sheet room ≤ 34
-  unfolding refusalOf
+  unfolding refusalIn
   refusal-small =
       go (sheetHolds year quarter name sheet) (every readingsHold (sheetHours sheet)) (every figuresFit (sheetHours sheet))
       (leb (reportLength (shapeOf sheet)) room)
@@ -77,7 +77,7 @@ module _ (year quarter : ℕ) (name sheet : List ℕ) (room : ℕ) where
 
   pub number-tells : shortestReport ≤ writtenNumber (answered year quarter name sheet room) →
       answered year quarter name sheet room ≡ Length (reportLength (shapeOf sheet))
-  unfolding answered
+  unfolding answeredIn
   number-tells h = go (refusalOf year quarter name sheet room) refusal-small h
     where
       go : (f : ℕ) → f ≤ 34

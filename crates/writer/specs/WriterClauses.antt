@@ -20,7 +20,7 @@ readingsAt sheet k = record {
   so2 = valueAt sheet k 1;
   nox = valueAt sheet k 2;
   co2 = valueAt sheet k 3;
-  flow = valueAt sheet k 4 / 1000;
+  flow = valueAt sheet k 4;
   fc = valueAt sheet k 5;
 }
 

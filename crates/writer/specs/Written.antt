@@ -9,10 +9,10 @@ use Rattle.stamp.specs.Stamp.{stampOf}
 use Rattle.totals.specs.Totals.{quarterTotals}
 use Rattle.layout.specs.declared.RecordType.{RecordType}
 use Rattle.layout.specs.declared.RecordType.the-variants.{Facility}
-use Rattle.sheet.specs.Sheet.{shapeOf, sheetHours}
+use Rattle.sheet.specs.Sheet.{SheetForm, presentForm, shapeOf, sheetHoursIn}
 use Rattle.records.specs.Records.{ended, facilityRecord, datedRecord, totalsRecord}
 use Rattle.writer.specs.Recorded.{ReportHour, recordedHours, reportHours}
-use Rattle.writer.specs.Refusals.{refusalOf}
+use Rattle.writer.specs.Refusals.{refusalIn}
 use Rattle.writer.specs.declared.Written.{Written}
 use Rattle.writer.specs.declared.Written.the-variants.{Length, Refused}
 
@@ -48,14 +48,20 @@ abbrev pub shortestReport : ℕ
 shortestReport = reportLength (shape 0)
 
 -- to a sheet and a buffer of so many bytes
-unfoldable pub answered : ℕ → ℕ → List ℕ → List ℕ → ℕ → Written
-answered year quarter name sheet room =
-    elim (refusalOf year quarter name sheet room) [ zero ↦ Length (reportLength (shapeOf sheet)) | suc c ↦ Refused (suc c) ]
+unfoldable pub answeredIn : SheetForm → ℕ → ℕ → List ℕ → List ℕ → ℕ → Written
+answeredIn f year quarter name sheet room =
+    elim (refusalIn f year quarter name sheet room) [ zero ↦ Length (reportLength (shapeOf sheet)) | suc c ↦ Refused (suc c) ]
+
+abbrev pub answered : ℕ → ℕ → List ℕ → List ℕ → ℕ → Written
+answered = answeredIn presentForm
 
 -- bytes beyond the report keep their values, and a refusal changes no byte
-unfoldable pub buffered : ℕ → ℕ → List ℕ → List ℕ → List ℕ → List ℕ
-buffered year quarter name sheet buffer =
-    elim (refusalOf year quarter name sheet (length buffer)) [
-      | zero ↦ report year quarter name (reportHours (sheetHours sheet)) ++ drop (reportLength (shapeOf sheet)) buffer
+unfoldable pub bufferedIn : SheetForm → ℕ → ℕ → List ℕ → List ℕ → List ℕ → List ℕ
+bufferedIn f year quarter name sheet buffer =
+    elim (refusalIn f year quarter name sheet (length buffer)) [
+      | zero ↦ report year quarter name (reportHours (sheetHoursIn f sheet)) ++ drop (reportLength (shapeOf sheet)) buffer
       | suc c ↦ buffer
     ]
+
+abbrev pub buffered : ℕ → ℕ → List ℕ → List ℕ → List ℕ → List ℕ
+buffered = bufferedIn presentForm

@@ -1,5 +1,5 @@
-//! The proved check and writer of quarterly stack reports, the year to date, and hours from a recorder, for safe Rust. All take any
-//! input and never panic.
+//! The proved check and writer of quarterly stack reports, the year to date, hours from a recorder, and sheets kept from before, for safe
+//! Rust. All take any input and never panic.
 
 use std::fmt;
 
@@ -41,6 +41,9 @@ extern "C" {
         answer: *mut u32,
         room: usize,
     ) -> u64;
+
+    /// The call behind [`convert`]: see include/edr.h. `compare/` looks at every word about what it lends.
+    pub fn edr_convert(sheet: *mut u32, words: usize) -> u64;
 }
 
 /// The numbers of an answer, and the code with which `edr_check` returns an acceptance.
@@ -151,6 +154,15 @@ pub enum Recorded {
     Refused(u64),
 }
 
+/// What became of a sheet kept from before.
+#[derive(Clone, Copy, Debug, PartialEq, Eq)]
+pub enum Converted {
+    /// It is one for [`write`](crate::write()).
+    Done,
+    /// The refusal's number, 31 or 50; no word is changed.
+    Refused(u64),
+}
+
 /// The operating hours of the longest quarter.
 pub const MOST_HOURS: usize = 2208;
 
@@ -176,7 +188,7 @@ pub enum Kind {
     Nox = 2,
     /// Tenths of percent.
     Co2 = 3,
-    /// Volumetric flow, scfh, whole thousands.
+    /// Volumetric flow, thousands of scfh; in a sheet kept from before, scfh: see [`convert`].
     Flow = 4,
     /// Carbon-based F-factor, tenths of scf/mmBtu.
     Fc = 5,
@@ -232,7 +244,7 @@ pub const fn meaning(number: u64) -> &'static str {
         23 => "line 301's heat input differs from the total formed",
         24 => "line 301's mean NOx emission rate differs from the one formed",
         31 => "year, quarter, name, word count or a kind of the sheet is wrong, or its hours do not rise or are not in the quarter",
-        32 => "a value of the sheet is outside its range, or a flow is not a whole thousand",
+        32 => "a value of the sheet is outside its range",
         33 => "a figure of the sheet's hours is too large for its columns",
         34 => "the buffer is shorter than the report",
         41 => "the quarter is not 1 to 4 or not next in the previous record's year, a quarter 0 is not all zeros, or hours pass 2,208 a quarter",
@@ -244,6 +256,7 @@ pub const fn meaning(number: u64) -> &'static str {
         47 => "the time is 0.00 and the heat input is not blank",
         48 => "line 301's NOx tons differ from the total formed",
         49 => "GAS on the 310 line and a blank SO2 reading on the 200 line of the same rank do not go together",
+        50 => "a flow word of the kept sheet, which has scfh, is not a whole thousand",
         _ => "no refusal has this number",
     }
 }
@@ -315,7 +328,7 @@ pub fn join(previous: YearToDate, year: u64, quarter: u64, answer: Quarter) -> J
     }
 }
 
-/// Makes the words of an hour from a recorder: SO2, NOx and CO2 in tenths, flow to the nearest 1,000 scfh. The exact binary value of
+/// Makes the words of an hour from a recorder: SO2, NOx and CO2 in tenths, flow in thousands of scfh. The exact binary value of
 /// each float is rounded half up: the float 0.15 lies below 0.15 and is recorded as 0.1.
 pub fn recorder_words(hour: RecorderHour) -> Recorded {
     let parts = [hour.so2, hour.nox, hour.co2, hour.flow].map(Reading::parts);
@@ -337,6 +350,17 @@ pub fn recorder_words(hour: RecorderHour) -> Recorded {
     match code {
         WORDS => Recorded::Words { words: [so2, nox, co2, flow], substituted },
         _ => Recorded::Refused(answer[0].into()),
+    }
+}
+
+/// Makes a sheet kept from before, whose flow words have scfh, into one for [`write`](crate::write()): flow words count thousands, all
+/// other words stay. With flows of at most 500,000,000 scfh its report is the former one, byte for byte. Convert a sheet only once, and
+/// keep the original: converted words pass for kept ones, 20,000,000 becomes 20,000 and then 20.
+pub fn convert(sheet: &mut [u32]) -> Converted {
+    // SAFETY: pointer and length are those of a slice that is borrowed for the call.
+    match unsafe { edr_convert(sheet.as_mut_ptr(), sheet.len()) } {
+        0 => Converted::Done,
+        number => Converted::Refused(number),
     }
 }
 
@@ -376,7 +400,7 @@ impl fmt::Display for Joined {
     }
 }
 
-/// The values of the words, SO2, NOx and CO2 in tenths and flow in scfh, and how many readings are substituted.
+/// The values of the words, SO2, NOx and CO2 in tenths and flow in thousands of scfh, and how many readings are substituted.
 impl fmt::Display for Recorded {
     fn fmt(&self, out: &mut fmt::Formatter) -> fmt::Result {
         match self {
@@ -385,6 +409,15 @@ impl fmt::Display for Recorded {
                 write!(out, "recorded {so2} {nox} {co2} {flow} {substituted}")
             }
             Recorded::Refused(number) => write!(out, "refused {number}"),
+        }
+    }
+}
+
+impl fmt::Display for Converted {
+    fn fmt(&self, out: &mut fmt::Formatter) -> fmt::Result {
+        match self {
+            Converted::Done => write!(out, "converted"),
+            Converted::Refused(number) => write!(out, "refused {number}"),
         }
     }
 }

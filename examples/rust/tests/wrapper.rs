@@ -1,17 +1,21 @@
 //! The wrapper's refusals are those of README.md and of include/edr.h; line 301 has NOx tons; words too large for a sheet are refused,
-//! times of 0, and flows that are not whole thousands; quarters join in order and within their limits; what is too short for an answer is
-//! left as it was; a recorder's readings are rounded by their exact values, and refused reading by reading; README.md shows what the
-//! examples of the year to date and of a recorder's hour print.
+//! times of 0, and flows past their limit; quarters join in order and within their limits; what is too short for an answer is
+//! left as it was; a recorder's readings are rounded by their exact values, and refused reading by reading; a kept sheet is
+//! converted to the one that gives its report, or left as it was; README.md shows what the examples of the year to date, of a recorder's
+//! hour and of a kept sheet print.
 
 use std::collections::BTreeMap;
 
 use edr::Reading::{self, Absent, Measured, Substituted};
-use edr::{hour_word, word, Answer, Joined, Kind, Quarter, Recorded, RecorderHour, Written, YearToDate};
+use edr::{
+    hour_word, word, Answer, Converted, Joined, Kind, Quarter, Recorded, RecorderHour, Written, YearToDate,
+};
 
 const README: &str = include_str!("../../../README.md");
 const HEADER: &str = include_str!("../../../include/edr.h");
 const YEAR_PRINTED: &str = include_str!("../../expected/year_to_date");
 const HOUR_PRINTED: &str = include_str!("../../expected/recorder_hour");
+const KEPT_PRINTED: &str = include_str!("../../expected/kept_sheet");
 const WORKED_HOUR: &str = include_str!("../../../samples/worked-hour.txt");
 
 /// Number and meaning of each row of the table of refusals.
@@ -120,16 +124,21 @@ fn written(sheet: [u32; edr::HOUR_WORDS]) -> Written {
     edr::write(2005, 3, b"STACK1", &sheet, &mut [0; edr::report_length(1)])
 }
 
-#[test]
-fn words_out_of_range_are_refused() {
-    let sheet = [
+/// The worked hour with this flow.
+fn with_flow(flow: u32) -> [u32; edr::HOUR_WORDS] {
+    [
         hour_word(0, 50),
         word(Kind::So2, 2_500),
         word(Kind::Nox, 2_000),
         word(Kind::Co2, 120),
-        word(Kind::Flow, 20_000_000),
+        word(Kind::Flow, flow),
         word(Kind::Fc, 18_000),
-    ];
+    ]
+}
+
+#[test]
+fn words_out_of_range_are_refused() {
+    let sheet = with_flow(20_000);
     assert_eq!(written(sheet), Written::Length(393));
     let out_of_range = [
         (0, hour_word(0, 0), 32),
@@ -139,8 +148,9 @@ fn words_out_of_range_are_refused() {
         (1, word(Kind::So2, 1 << 29 | 2_500), 32),
         (2, word(Kind::Nox, 1 << 30 | 2_000), 32),
         (3, word(Kind::Co2, 1 << 31 | 120), 32),
-        (4, word(Kind::Flow, 600_000_000), 32),
-        (4, word(Kind::Flow, 20_000_500), 32),
+        (4, word(Kind::Flow, 10_000_000), 32),
+        (4, word(Kind::Flow, 20_000_000), 32), // scfh, as they were kept
+        (4, word(Kind::Flow, 9_999_999), 33),
         (5, word(Kind::Fc, 1 << 29 | 18_000), 32),
     ];
     for (place, word, number) in out_of_range {
@@ -253,7 +263,7 @@ const HOUR: RecorderHour = RecorderHour {
 };
 
 /// What it is recorded as.
-const VALUES: [u32; edr::RECORDER_READINGS] = [2_500, 2_000, 120, 20_000_000];
+const VALUES: [u32; edr::RECORDER_READINGS] = [2_500, 2_000, 120, 20_000];
 
 /// The hour with another reading at a place of SO2, NOx, CO2, flow.
 fn with(place: usize, reading: Reading) -> RecorderHour {
@@ -285,9 +295,10 @@ fn readings_are_rounded_by_their_exact_values() {
         (0.0, 0),
         (-0.0, 0),
         (500_f64.next_down(), 0),
-        (500.0, 1_000),
-        (20_000_500.0, 20_001_000),
-        (500_000_499.9, 500_000_000),
+        (500.0, 1),
+        (20_000_500.0, 20_001),
+        (500_000_500.0, 500_001),
+        (9_999_999_499.9, 9_999_999),
     ];
     for (place, readings) in [&ppm[..], &ppm, &percent, &scfh].into_iter().enumerate() {
         for &(reading, value) in readings {
@@ -313,12 +324,12 @@ fn substituted_readings_are_counted() {
     assert_eq!(edr::recorder_words(hour), recorded(VALUES, 3));
     hour.co2 = Substituted(12.0);
     assert_eq!(edr::recorder_words(hour), recorded(VALUES, 4));
-    assert_eq!(edr::recorder_words(hour).to_string(), "recorded 2500 2000 120 20000000 4");
+    assert_eq!(edr::recorder_words(hour).to_string(), "recorded 2500 2000 120 20000 4");
 }
 
 #[test]
 fn readings_are_refused_each_by_itself() {
-    let least_too_large = [9_999.95, 9_999.95, 100.05_f64.next_up(), 500_000_500.0];
+    let least_too_large = [9_999.95, 9_999.95, 100.05_f64.next_up(), 9_999_999_500.0];
     for (place, too_large) in least_too_large.into_iter().enumerate() {
         let refused = [
             (Absent, 44),
@@ -358,8 +369,42 @@ fn the_first_reading_that_is_refused_counts() {
 }
 
 #[test]
+fn kept_sheets_are_converted_once() {
+    let mut sheet = [with_flow(20_000_000), with_flow(500_000_000)].concat();
+    assert_eq!(edr::convert(&mut sheet), Converted::Done);
+    assert_eq!(sheet, [with_flow(20_000), with_flow(500_000)].concat());
+    assert_eq!(edr::convert(&mut sheet), Converted::Done);
+    assert_eq!(sheet, [with_flow(20), with_flow(500)].concat());
+    assert_eq!(edr::convert(&mut sheet), Converted::Refused(50));
+    assert_eq!(sheet, [with_flow(20), with_flow(500)].concat());
+    assert_eq!(edr::convert(&mut []), Converted::Done);
+    assert_eq!(Converted::Done.to_string(), "converted");
+}
+
+#[test]
+fn kept_sheets_that_are_wrong_are_left() {
+    let kept = [with_flow(20_000_000), with_flow(20_000_500)].concat();
+    let mut unlike = kept.clone();
+    unlike[0] = word(Kind::So2, 50);
+    let most: Vec<u32> = (0..=edr::MOST_HOURS).flat_map(|_| with_flow(1_000)).collect();
+    let wrong = [(&kept[..], 50), (&kept[..11], 31), (&unlike, 31), (&most, 31)];
+    for (kept, number) in wrong {
+        let mut sheet = kept.to_vec();
+        assert_eq!(edr::convert(&mut sheet), Converted::Refused(number));
+        assert_eq!(sheet, kept, "{number}");
+    }
+    let mut longest = most[..edr::HOUR_WORDS * edr::MOST_HOURS].to_vec();
+    assert_eq!(edr::convert(&mut longest), Converted::Done);
+    assert!(longest.chunks(edr::HOUR_WORDS).all(|words| words == with_flow(1)));
+}
+
+#[test]
 fn the_readme_shows_lines_of_the_examples() {
-    for (start, printed) in [("    year to date ", YEAR_PRINTED), ("    recorded ", HOUR_PRINTED)] {
+    for (start, printed) in [
+        ("    year to date ", YEAR_PRINTED),
+        ("    recorded ", HOUR_PRINTED),
+        ("    converted", KEPT_PRINTED),
+    ] {
         let block = README.split("\n\n").find(|block| block.lines().any(|line| line.starts_with(start)));
         let shown: Vec<&str> = block.into_iter().flat_map(str::lines).map(str::trim_start).collect();
         let printed: Vec<&str> = printed.lines().filter(|line| !line.starts_with("written ")).collect();

@@ -5,6 +5,7 @@
 
 use super::flows::{uneven_flow, uneven_on};
 use super::page::Page;
+use super::recorder::FORMER_LIMIT;
 use crate::calendar::{eight_digits, is_leap, moment_of};
 use crate::layout::*;
 use crate::random::Random;
@@ -78,7 +79,7 @@ pub fn bad_format(random: &mut Random, turn: usize, page: &mut Page) {
     page.set(index, value.columns, &text);
 }
 
-/// Year, quarter or a value outside its range.
+/// Year, quarter or a value outside its range, or for flow outside its former one.
 pub fn bad_range(random: &mut Random, turn: usize, page: &mut Page) {
     let blocks = [(2, 0), (3, 0), (4, 0), (6, 0)];
     let (block, place) = blocks[turn % 4];
@@ -87,7 +88,7 @@ pub fn bad_range(random: &mut Random, turn: usize, page: &mut Page) {
         return bad_head(random, turn, page);
     }
     let index = page.index(block, random.below(page.hours));
-    let (low, high) = value.range.unwrap_or((0, 0));
+    let (low, high) = former_range(&HOURLY[block], value);
     let old = page.get(index, value.columns).and_then(|text| read_number(&text, value.decimals));
     let number = match turn / 4 % 5 {
         0 if low > 0 => low - 1,
@@ -101,6 +102,13 @@ pub fn bad_range(random: &mut Random, turn: usize, page: &mut Page) {
         _ => random.pick(&[0, value.largest()]).max(if low == 0 { high + 1 } else { 0 }),
     };
     page.set(index, value.columns, &text_of(value, number));
+}
+
+/// The ends of a value's range, that of flow with its former limit: flows beyond it
+/// do not fit their figures, or are no whole thousands.
+fn former_range(record: &Record, value: &Value) -> (u128, u128) {
+    let (low, high) = value.range.unwrap_or((0, 0));
+    (low, if record.kind == R220.kind { FORMER_LIMIT * value.unit } else { high })
 }
 
 /// A number in the columns of a value, with blanks before it.

@@ -1,7 +1,7 @@
 //! Figures at, just inside and just outside their true edge, for each of the
 //! four quantities, in any hour.
 
-use super::recorder::{column_limits, hour_with, readings, readings_around, report};
+use super::recorder::{column_limits, hour_with, readings, readings_around, report, FORMER_LIMIT};
 use super::tight;
 use crate::figures::{Figure, Monitor, Readings, FIGURES};
 use crate::random::Random;
@@ -32,14 +32,14 @@ fn edge_readings(random: &mut Random, figure: Figure) -> Readings {
             Readings { co2: 1, ..drawn },
             Readings { co2: 1_000, fc: 30_000, ..drawn },
             Readings { fc: 5_000, ..drawn },
-            Readings { flow: 500_000, fc: 30_000, co2: random.between(1, 500), so2: Monitor(5), nox: 1 },
+            Readings { flow: FORMER_LIMIT, fc: 30_000, co2: random.between(1, 500), so2: Monitor(5), nox: 1 },
         ],
         Figure::So2 => [
             Readings { so2: Monitor(0), ..drawn },
             Readings { so2: Monitor(0), flow: 0, ..drawn },
             Readings { flow: 0, ..drawn },
             Readings { so2: Monitor(99_999), flow: random.between(0, 60_000), ..drawn },
-            Readings { flow: 500_000, so2: Monitor(random.between(0, 12_000)), ..drawn },
+            Readings { flow: FORMER_LIMIT, so2: Monitor(random.between(0, 12_000)), ..drawn },
         ],
         Figure::Nox => [
             Readings { nox: 0, ..drawn },
@@ -52,7 +52,7 @@ fn edge_readings(random: &mut Random, figure: Figure) -> Readings {
             Readings { flow: 0, ..drawn },
             Readings { co2: 1, ..drawn },
             Readings { co2: 1_000, ..drawn },
-            Readings { flow: 500_000, ..drawn },
+            Readings { flow: FORMER_LIMIT, ..drawn },
             Readings { flow: 1, co2: random.between(1, 1_000), ..drawn },
         ],
     };
@@ -121,13 +121,18 @@ pub fn far_off(random: &mut Random, turn: usize) -> Report {
 /// A report whose readings call for a figure that no column holds; the
 /// largest that fits stands there instead.
 pub fn too_large(random: &mut Random, turn: usize) -> Report {
+    too_large_with_flow(random, turn, FORMER_LIMIT)
+}
+
+/// The same with this flow where one is large, in thousands.
+pub fn too_large_with_flow(random: &mut Random, turn: usize, flow: u128) -> Report {
     let count = 1 + random.below(3);
     let mut report = report(random, count);
     let rank = random.below(count);
     let hour = &mut report.hours[rank];
     hour.readings = match turn % 3 {
-        0 => Readings { flow: 500_000, co2: 1_000, fc: 5_000, so2: Monitor(3), nox: 20 },
-        1 => Readings { flow: 500_000, so2: Monitor(99_999), co2: 20, fc: 30_000, nox: 20 },
+        0 => Readings { flow, co2: 1_000, fc: 5_000, so2: Monitor(3), nox: 20 },
+        1 => Readings { flow, so2: Monitor(99_999), co2: 20, fc: 30_000, nox: 20 },
         _ => Readings { nox: 99_999, co2: 1, fc: 30_000, so2: Monitor(20), flow: 100 },
     };
     for (number, figure) in FIGURES.iter().enumerate() {
@@ -157,7 +162,7 @@ pub fn two_impossible(random: &mut Random, turn: usize) -> Report {
 }
 
 /// A report of a few hours in which one hour has these readings and this figure.
-fn report_with(random: &mut Random, readings: Readings, figure: Figure, wanted: u128) -> Report {
+pub fn report_with(random: &mut Random, readings: Readings, figure: Figure, wanted: u128) -> Report {
     let count = 1 + random.below(3);
     let mut report = report(random, count);
     let rank = random.below(count);

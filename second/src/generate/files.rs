@@ -5,7 +5,7 @@ use super::damage::damaged;
 use super::edges;
 use super::flows;
 use super::page::Page;
-use super::recorder::{self, bytes, hour_with, readings, report, report_in};
+use super::recorder::{self, bytes, hour_with, readings, report, report_in, FORMER_LIMIT};
 use super::{family_of, Family};
 use crate::calendar::{hours_in_quarter, is_leap};
 use crate::figures::{Monitor, Readings, FIGURES};
@@ -239,7 +239,7 @@ fn good_range(random: &mut Random, turn: usize) -> Vec<u8> {
         0 => Readings { co2: 1, ..base },
         1 => Readings { co2: 1_000, ..base },
         2 => Readings { flow: 0, ..base },
-        3 => Readings { flow: 500_000, ..base },
+        3 => Readings { flow: FORMER_LIMIT, ..base },
         4 => Readings { fc: 5_000, ..base },
         5 => Readings { fc: 30_000, ..base },
         6 => Readings { so2: Monitor(0), nox: 0, ..base },
@@ -282,7 +282,7 @@ fn uneven_and_more(random: &mut Random, turn: usize) -> Vec<u8> {
     // The first of these is the same fault again.
     let fault = changes::ON_LINE[1 + turn % (changes::ON_LINE.len() - 1)];
     match way {
-        2 => flows::too_large_flow(random, turn, &mut page),
+        2 => flows::large_flow(random, turn, &mut page),
         3 => flows::broken_flow(random, turn, &mut page),
         4 => fault(random, line, &mut page),
         5 => {

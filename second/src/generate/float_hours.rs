@@ -138,11 +138,11 @@ fn out_of_range(random: &mut Random, channel: &Value) -> u64 {
     }
 }
 
-/// A number that is past the limit, but not if it is cut to so many bits.
+/// A number whose units are past the limit, but not if they are cut to so many bits.
 fn past_bits(random: &mut Random, channel: &Value) -> u64 {
-    let (low, high) = channel.limits();
+    let (low, high) = unit_limits(channel);
     let bits = random.pick(&[29, 32, 33, 53, 63, 64, 96]);
-    decimal((1 << bits) + random.between(low, high), channel.decimals)
+    decimal(((1 << bits) + random.between(low, high)) * channel.unit, channel.decimals)
 }
 
 /// The hour of these states and readings. Its answer is long enough, and often
@@ -352,9 +352,9 @@ fn mutated(random: &mut Random, turn: usize) -> FloatHour {
 const LENT: [u32; 7] = [90, 91, 92, 93, 94, 95, 96];
 
 /// Numbers to try in every place, each with the floats beside it: the papers'
-/// examples, half-way points and limits; and 2^29, 2^32 and 2^64 units of any
-/// channel.
-const NUMBERS: [&str; 36] = [
+/// examples, half-way points and limits, former ones too; and 2^29, 2^32 and 2^64
+/// units of any channel.
+const NUMBERS: [&str; 51] = [
     "0.05",
     "0.1",
     "0.15",
@@ -386,7 +386,22 @@ const NUMBERS: [&str; 36] = [
     "500000000",
     "500000499.9",
     "500000500",
+    "500001000",
+    "536870499.9",
+    "536870500",
+    "536870911",
     "536870912",
+    "1000000000",
+    "2147483648",
+    "4294967295.9",
+    "4294967296",
+    "4294967500",
+    "8589934592",
+    "9999998500",
+    "9999999000",
+    "9999999499.9",
+    "9999999500",
+    "10000000000",
     "536870912000",
     "4294967296000",
     "1844674407370955161.6",
@@ -442,7 +457,7 @@ fn with_named_readings() -> Vec<FloatHour> {
 
 /// Any fault in any place, and any in a later one.
 fn with_two_faults() -> Vec<FloatHour> {
-    let faults = [(ABSENT, INFINITY), (MEASURED, float("-1")), (SUBSTITUTED, float("1e9"))];
+    let faults = [(ABSENT, INFINITY), (MEASURED, float("-1")), (SUBSTITUTED, float("1e10"))];
     let mut hours = Vec::new();
     for (first, later) in [(0, 1), (0, 2), (0, 3), (1, 2), (1, 3), (2, 3)] {
         for fault in faults {

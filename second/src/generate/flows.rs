@@ -1,19 +1,21 @@
-//! Flow that is no whole thousand, on 220 lines; alone or beyond its range or
-//! out of its format besides.
+//! Flow that is no whole thousand, on 220 lines; alone, or large or out of its
+//! format besides.
 
 use super::changes::{bad_head, text_of};
 use super::page::Page;
+use super::recorder::FORMER_LIMIT;
 use crate::layout::*;
 use crate::random::Random;
 
 /// The place of the 220 lines in `HOURLY`.
 const BLOCK: usize = 3;
 
-/// The last whole thousand above which others that are none are in range.
-const LAST: u128 = 499_999_000;
+/// The last whole thousand above which others that are none were in range before
+/// the limit was raised.
+const LAST: u128 = 1_000 * (FORMER_LIMIT - 1);
 
-/// A flow in its range that is no whole thousand: just above 0, just below the
-/// limit, or just above the given one.
+/// A flow up to the former limit that is no whole thousand: just above 0, just
+/// below that limit, or just above the given one.
 pub fn uneven(random: &mut Random, turn: usize, flow: u128) -> u128 {
     let over = match turn % 5 {
         0 => 1,
@@ -30,14 +32,14 @@ pub fn uneven(random: &mut Random, turn: usize, flow: u128) -> u128 {
     thousands + over
 }
 
-/// A flow that is no whole thousand and beyond its range.
-fn uneven_and_too_large(random: &mut Random, turn: usize) -> u128 {
+/// A flow that is no whole thousand and beyond the former limit.
+fn uneven_and_large(random: &mut Random, turn: usize) -> u128 {
     match turn % 5 {
-        0 => 500_000_001,
-        1 => 500_000_500,
-        2 => 500_000_999,
+        0 => 1_000 * FORMER_LIMIT + 1,
+        1 => 1_000 * FORMER_LIMIT + 500,
+        2 => 1_000 * FORMER_LIMIT + 999,
         3 => FLOW.largest(),
-        _ => 1_000 * random.between(500_001, 9_999_999) + random.between(1, 999),
+        _ => 1_000 * random.between(FORMER_LIMIT + 1, 9_999_999) + random.between(1, 999),
     }
 }
 
@@ -76,7 +78,7 @@ fn uneven_there(random: &mut Random, turn: usize, page: &Page, index: usize) -> 
 }
 
 /// Puts a flow on a line, with blanks or zeros before it.
-fn put(random: &mut Random, page: &mut Page, index: usize, flow: u128) {
+pub fn put(random: &mut Random, page: &mut Page, index: usize, flow: u128) {
     let text = if random.once_in(3) { format!("{flow:010}").into_bytes() } else { text_of(&FLOW, flow) };
     page.set(index, FLOW.columns, &text);
 }
@@ -100,10 +102,10 @@ pub fn uneven_on(random: &mut Random, index: usize, page: &mut Page) {
     }
 }
 
-/// No whole thousand and too large, in any hour.
-pub fn too_large_flow(random: &mut Random, turn: usize, page: &mut Page) {
+/// No whole thousand and beyond the former limit, in any hour.
+pub fn large_flow(random: &mut Random, turn: usize, page: &mut Page) {
     let index = any_line(random, page);
-    let flow = uneven_and_too_large(random, turn);
+    let flow = uneven_and_large(random, turn);
     put(random, page, index, flow);
 }
 

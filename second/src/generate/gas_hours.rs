@@ -7,7 +7,7 @@ use super::damage::damaged;
 use super::edges::set_at_edge;
 use super::idle_hours::put;
 use super::page::{two_below, Page};
-use super::recorder::{self, column_limits, honest_figures};
+use super::recorder::{self, column_limits, honest_figures, FORMER_LIMIT};
 use super::{family_of, Family};
 use crate::figures::{Figure, Gas, Readings, FIGURES};
 use crate::layout::*;
@@ -57,7 +57,7 @@ pub fn heat_at(edge: u128) -> u128 {
 }
 
 /// The same hour as a gas hour, with an SO2 figure that passes.
-fn make_gas(random: &mut Random, hour: &mut Hour) {
+pub fn make_gas(random: &mut Random, hour: &mut Hour) {
     hour.readings.so2 = Gas(hour.figures[0]);
     let (low, high) = Figure::So2.edges(&hour.readings);
     hour.figures[1] = random.between(low, high);
@@ -96,7 +96,7 @@ fn gas_hour(random: &mut Random, readings: Readings, heat: u128, so2: u128) -> O
     let readings = Readings { so2: Gas(heat), ..readings };
     let [_, _, nox_rate, co2_rate] = honest_figures(random, &readings);
     let figures = [heat, so2, nox_rate, co2_rate];
-    let sound = readings.flow <= 500_000
+    let sound = readings.flow <= FORMER_LIMIT
         && Figure::Heat.possible(&readings, heat)
         && figures.iter().zip(column_limits()).all(|(&figure, limit)| figure <= limit);
     let time = random.pick(&[1, 25, 50, 99, 100, 100]);

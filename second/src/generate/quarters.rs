@@ -8,15 +8,15 @@ use super::gas_hours;
 use super::idle_hours;
 use super::page::{two_below, Page};
 use super::recorder::{column_limits, honest_figures};
-use super::sheets::{order, order_in, words_of};
-use super::tons::MOST_WRITTEN;
+use super::sheets::{case, need, order, order_in, words_of};
+use super::tons::{FORMER_MOST_WRITTEN, MOST_WRITTEN};
 use crate::calendar::{eight_digits, hours_in_quarter, moment_of};
 use crate::cases::Case;
 use crate::figures::{Monitor, Readings, FIGURES};
-use crate::layout::{report_length, DATE_200, HOURLY, R100, R200};
+use crate::layout::{DATE_200, HOURLY, R100, R200};
 use crate::random::Random;
 use crate::report::{Hour, PlainPen, Report, TOTALS};
-use crate::write::{hour_of, report_of, Order, WORDS};
+use crate::write::{hour_of, report_of, Form, Order, WORDS};
 use std::ops::Range;
 
 /// More changes than this are not made at once.
@@ -31,7 +31,7 @@ const ONE_MORE: usize = 20;
 /// The step that makes a flow no whole thousand.
 const UNEVEN: usize = 21;
 
-/// The full quarters in turn: year and quarter.
+/// The full quarters of the first form in turn: year and quarter.
 const FULL: [(u32, u32); 9] =
     [(2005, 1), (2000, 1), (2005, 3), (2001, 2), (1996, 1), (2094, 4), (1995, 1), (2092, 2), (2008, 3)];
 
@@ -40,40 +40,69 @@ fn heaviest(number: usize) -> Option<Readings> {
     match number {
         // The largest heat and the largest SO2 figure.
         5 => Some(Readings { so2: Monitor(30_000), nox: 99_999, co2: 996, flow: 200_803, fc: 20_000 }),
-        8 => Some(MOST_WRITTEN),
+        8 => Some(FORMER_MOST_WRITTEN),
         _ => None,
     }
 }
 
-/// A full quarter, and changes to it.
-pub fn full(random: &mut Random, number: usize) -> Vec<Case> {
-    let (year, quarter) = FULL[number % FULL.len()];
-    let hours = hours_in_quarter(year, quarter) as usize;
-    let mut order = order_in(random, year, quarter, hours);
-    if let Some(readings) = heaviest(number) {
+/// An order with all hours of a quarter, and with the same readings in each if
+/// they are given.
+fn full_order(
+    random: &mut Random,
+    form: Form,
+    (year, quarter): (u32, u32),
+    readings: Option<Readings>,
+) -> Order {
+    let hours = hours_in_quarter(year, quarter);
+    let mut order = order_in(random, form, year, quarter, hours as usize);
+    if let Some(readings) = readings {
         let hour = |hour_of_quarter| Hour { hour_of_quarter, time: 100, readings, figures: [0; 4] };
-        order.words = (0..hours as u32).flat_map(|h| words_of(&hour(h))).collect();
+        order.words = (0..hours).flat_map(|rank| words_of(form, &hour(rank))).collect();
     }
+    order
+}
+
+/// A full quarter of the first form, and changes to it.
+pub fn full(random: &mut Random, number: usize) -> Vec<Case> {
+    let order = full_order(random, Form::First, FULL[number % FULL.len()], heaviest(number));
     let mut cases = Vec::new();
     if number == 2 {
         // The largest report of all, one byte too many for its room.
-        cases.push(Case::Write { order: order.clone(), room: report_length(hours) - 1 });
+        cases.push(case(Form::First, order.clone(), need(&order) - 1));
     }
     let steps = (number * 7..number * 7 + 14).chain([ONE_MORE, UNEVEN]);
-    cases.extend(written(random, order, steps, turns(number, 3), turns(number, 2)));
+    cases.extend(written(random, Form::First, order, steps, turns(number, 3), turns(number, 2)));
     cases
 }
 
-/// About as many hours as 65,536 bytes hold, and changes.
-pub fn middle(random: &mut Random, number: usize) -> Vec<Case> {
-    let order = order(random, 205 + number % 2);
-    written(random, order, number * 9..number * 9 + 10, turns(number, 2), turns(number, 2))
+/// A full quarter of the present form, and changes to it: one of hours with the
+/// most NOx and one of any hours in turn.
+pub fn present_full(random: &mut Random, number: usize) -> Vec<Case> {
+    let (quarter, readings) = [((2005, 3), Some(MOST_WRITTEN)), ((2000, 1), None)][number % 2];
+    let order = full_order(random, Form::Present, quarter, readings);
+    let steps = number * 7..number * 7 + 8;
+    written(random, Form::Present, order, steps, turns(number, 2), turns(number, 2))
 }
 
-/// A few hours, and changes.
+/// About as many hours of the first form as 65,536 bytes hold, and changes.
+pub fn middle(random: &mut Random, number: usize) -> Vec<Case> {
+    let order = order(random, Form::First, 205 + number % 2);
+    written(random, Form::First, order, number * 9..number * 9 + 10, turns(number, 2), turns(number, 2))
+}
+
+/// A few hours of the first form, and changes.
 pub fn small(random: &mut Random, number: usize) -> Vec<Case> {
-    let order = order(random, 1 + number % 9);
-    written(random, order, number * 5..number * 5 + 5, turns(number, 2), turns(number, 3))
+    few(random, Form::First, number)
+}
+
+/// A few hours of the present form, and changes.
+pub fn present_small(random: &mut Random, number: usize) -> Vec<Case> {
+    few(random, Form::Present, number)
+}
+
+fn few(random: &mut Random, form: Form, number: usize) -> Vec<Case> {
+    let order = order(random, form, 1 + number % 9);
+    written(random, form, order, number * 5..number * 5 + 5, turns(number, 2), turns(number, 3))
 }
 
 /// So many turns for the report with this number, in a row with those of the
@@ -86,15 +115,17 @@ fn turns(number: usize, count: usize) -> Range<usize> {
 /// which lines of it are made idle, and turns in which hours are made gas hours.
 fn written(
     random: &mut Random,
+    form: Form,
     order: Order,
     steps: impl Iterator<Item = usize>,
     idle_turns: Range<usize>,
     gas_turns: Range<usize>,
 ) -> Vec<Case> {
-    let hours = order.words.chunks(WORDS).map(hour_of).collect();
+    let hour = |words| hour_of(form, words).expect("an hour of a sound order");
+    let hours = order.words.chunks(WORDS).map(hour).collect();
     let report = report_of(&order, hours);
-    let room = report_length(report.hours.len()) + random.pick(&[0, 0, 1, 77]);
-    let mut cases = vec![Case::Write { order, room }];
+    let room = need(&order) + random.pick(&[0, 0, 1, 77]);
+    let mut cases = vec![case(form, order, room)];
     let mut now = report.bytes(&mut PlainPen);
     for step in steps {
         let next = changed(random, step, &report);

@@ -11,6 +11,10 @@ use crate::rounding::half_up;
 /// Unrounded readings are counted in so many parts of a recorded unit.
 const PARTS: u128 = 1_000_000;
 
+/// The largest flow, in thousands, before the limit was raised. What was made for
+/// that limit keeps to it.
+pub const FORMER_LIMIT: u128 = 500_000;
+
 /// The largest figures that the columns hold: heat, SO2, NOx, CO2.
 pub fn column_limits() -> [u128; 4] {
     [&R300.values[1], &R310.values[0], &R320.values[1], &R330.values[0]].map(Value::largest)
@@ -67,7 +71,7 @@ fn any(random: &mut Random) -> Readings {
         so2: Monitor(random.spread(99_999)),
         nox: random.spread(99_999),
         co2: random.spread(1_000).max(1),
-        flow: random.spread(500_000),
+        flow: random.spread(FORMER_LIMIT),
         fc: random.between(5_000, 30_000),
     }
 }
@@ -79,7 +83,7 @@ fn extreme(random: &mut Random) -> Readings {
         so2: random.pick(&[Monitor(0), Monitor(0), Monitor(1), Monitor(99_999), Monitor(99_998), other.so2]),
         nox: random.pick(&[0, 0, 1, 99_999, 99_998, other.nox]),
         co2: random.pick(&[1, 1, 2, 999, 1_000, 1_000, other.co2]),
-        flow: random.pick(&[0, 0, 1, 2, 499_999, 500_000, other.flow]),
+        flow: random.pick(&[0, 0, 1, 2, FORMER_LIMIT - 1, FORMER_LIMIT, other.flow]),
         fc: random.pick(&[5_000, 5_000, 5_001, 29_999, 30_000, 30_000, other.fc]),
     }
 }
@@ -92,6 +96,16 @@ pub fn readings(random: &mut Random) -> Readings {
             1 => any(random),
             _ => extreme(random),
         };
+        if writable(&readings) {
+            return readings;
+        }
+    }
+}
+
+/// The same with a given flow.
+pub fn readings_with_flow(random: &mut Random, flow: u128) -> Readings {
+    loop {
+        let readings = Readings { flow, ..any(random) };
         if writable(&readings) {
             return readings;
         }
@@ -245,7 +259,7 @@ mod tests {
     #[test]
     fn unrounded_readings_round_to_the_recorded_one() {
         let mut random = Random::new(8);
-        for recorded in (0..1_000).chain(499_990..=500_000) {
+        for recorded in (0..1_000).chain(FORMER_LIMIT - 10..=FORMER_LIMIT).chain(9_999_990..=9_999_999) {
             assert_eq!(half_up(unrounded(&mut random, recorded), PARTS), recorded);
         }
     }

@@ -6,6 +6,7 @@
 //! looked for, K from the figure, both odd, and a and b from the formula and
 //! the other readings. We look for `a * N = b * K + d` with the least d.
 
+use super::recorder::FORMER_LIMIT;
 use crate::figures::{Figure, Formula, Monitor, Readings};
 use crate::random::Random;
 use crate::rounding::span;
@@ -83,6 +84,16 @@ pub fn exact_heat(random: &mut Random, upper: bool) -> (Readings, u128) {
 /// look at the upper edge, odd turns at the lower one. Only the readings that
 /// the figure uses count.
 pub fn find(random: &mut Random, figure: Figure, turn: usize) -> Option<(Readings, u128)> {
+    find_up_to(random, figure, turn, FORMER_LIMIT)
+}
+
+/// The same with flows up to the given one, in thousands.
+pub fn find_up_to(
+    random: &mut Random,
+    figure: Figure,
+    turn: usize,
+    largest_flow: u128,
+) -> Option<(Readings, u128)> {
     let upper = turn.is_multiple_of(2);
     let turn = turn / 2;
     // The end of a span in halves, on the side in question.
@@ -99,16 +110,17 @@ pub fn find(random: &mut Random, figure: Figure, turn: usize) -> Option<(Reading
         }
         _ => random.between(5_000, 30_000),
     };
+    let last_end = end(largest_flow, true);
     let (a, b, limit) = match figure {
-        Figure::Heat => (50 * end(co2, upper), fc as i128, random.pick(&[1_000_001, 4_001])),
-        Figure::So2 => (83 * end(so2, upper), 1_000_000, 1_000_001),
+        Figure::Heat => (50 * end(co2, upper), fc as i128, random.pick(&[last_end, 4_001])),
+        Figure::So2 => (83 * end(so2, upper), 1_000_000, last_end),
         Figure::Nox => (597 * fc as i128, 250_000 * end(co2, !upper), 199_999),
-        Figure::Co2 => (57 * end(co2, upper), 200_000, 1_000_001),
+        Figure::Co2 => (57 * end(co2, upper), 200_000, last_end),
     };
     let (n, k) = solve(random, turn, a, b, limit)?;
     let reading = back(n, upper);
     let wanted = back(k, !upper);
-    let limit = if figure == Figure::Nox { 99_999 } else { 500_000 };
+    let limit = if figure == Figure::Nox { 99_999 } else { largest_flow };
     if reading > limit || (reading == 0 && !upper) {
         return None;
     }

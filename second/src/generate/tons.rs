@@ -7,7 +7,7 @@ use super::changes::bad_text;
 use super::edges::set_at_edge;
 use super::idle_hours::{put, with_idle_hours};
 use super::page::Page;
-use super::recorder::{bytes, name, report, rising_hours, year_and_quarter};
+use super::recorder::{bytes, name, report, rising_hours, year_and_quarter, FORMER_LIMIT};
 use super::sheets::words_of;
 use super::tight::euclid;
 use super::{family_of, Family};
@@ -17,7 +17,7 @@ use crate::layout::{report_length, Value, HEAT, R301};
 use crate::random::Random;
 use crate::report::{nox_mass, Hour, Report, NOX_TENTH};
 use crate::rounding::half_up;
-use crate::write::Order;
+use crate::write::{Form, Order};
 use std::cmp::Reverse;
 
 /// The mean and NOx tons among the totals and on line 301.
@@ -30,13 +30,19 @@ const COLUMNS: &Value = &R301.values[TONS];
 /// The length that line 301 had without them.
 const OLD_LENGTH: usize = COLUMNS.columns.0 - 1;
 
-/// The readings of the written hour with the most NOx.
+/// The readings of a written hour with the most NOx: its heat, its SO2 and its NOx
+/// rate are the largest that their columns hold.
 pub const MOST_WRITTEN: Readings =
-    Readings { so2: Monitor(12_048), nox: 99_999, co2: 153, flow: 500_000, fc: 7_652 };
+    Readings { so2: Monitor(617), nox: 85_780, co2: 17, flow: 9_763_515, fc: 16_598 };
 
-/// The readings and figures of the hour with the most NOx that passes.
-pub const MOST_PASSING: (Readings, [u128; 4]) = (
-    Readings { so2: Monitor(10), nox: 99_999, co2: 7, flow: 500_000, fc: 5_116 },
+/// The readings of the written hour with the most NOx among those with flows up to
+/// the former limit.
+pub const FORMER_MOST_WRITTEN: Readings =
+    Readings { so2: Monitor(12_048), nox: 99_999, co2: 153, flow: FORMER_LIMIT, fc: 7_652 };
+
+/// The readings and figures of the one among these with the most NOx that passes.
+pub const FORMER_MOST_PASSING: (Readings, [u128; 4]) = (
+    Readings { so2: Monitor(10), nox: 99_999, co2: 7, flow: FORMER_LIMIT, fc: 5_116 },
     [73_300, 830, 93_977, 1_995],
 );
 
@@ -178,14 +184,14 @@ fn hour_of(random: &mut Random, time: u128, rate: u128, heat: u128) -> Option<Ho
     };
     let [_, so2_rate, _, co2_rate] = written_figures(&readings);
     let sound = readings.nox <= 99_999
-        && readings.flow <= 500_000
+        && readings.flow <= FORMER_LIMIT
         && Figure::Heat.possible(&readings, heat)
         && Figure::Nox.possible(&readings, rate);
     let figures = [heat, so2_rate, rate, co2_rate];
     sound.then_some(Hour { hour_of_quarter: 0, time, readings, figures })
 }
 
-fn written_figures(readings: &Readings) -> [u128; 4] {
+pub fn written_figures(readings: &Readings) -> [u128; 4] {
     FIGURES.map(|figure| figure.of_recorded(readings))
 }
 
@@ -226,12 +232,12 @@ fn half(random: &mut Random, turn: usize) -> Vec<u8> {
     put(random, report)
 }
 
-/// A sheet whose report has NOx tons on half a tenth, or just below it.
+/// A sheet of the first form whose report has NOx tons on half a tenth, or just below it.
 pub fn sheet(random: &mut Random, number: usize) -> Case {
     let report = report_below_half(random, (number % 2) as u128, true);
     let Report { year, quarter, name, .. } = report;
-    let words = report.hours.iter().flat_map(words_of).collect();
-    Case::Write { order: Order { year, quarter, name, words }, room: report_length(report.hours.len()) }
+    let words = report.hours.iter().flat_map(|hour| words_of(Form::First, hour)).collect();
+    Case::Convert { order: Order { year, quarter, name, words }, room: report_length(report.hours.len()) }
 }
 
 /// NOx tons at the end of their columns, so many as no quarter has, or right but
@@ -301,12 +307,18 @@ fn other_length(random: &mut Random, turn: usize) -> Vec<u8> {
     page.bytes()
 }
 
-/// One to three hours with as much NOx as can be written, or can pass; right, or
-/// one up.
+/// One to three hours with as much NOx as can be written, or can pass, with flows
+/// up to the former limit; right, or one up.
 fn heaviest(random: &mut Random, turn: usize) -> Vec<u8> {
+    let readings = FORMER_MOST_WRITTEN;
+    let written = (readings, written_figures(&readings));
+    let hour = if turn % 2 == 0 { FORMER_MOST_PASSING } else { written };
+    heavy(random, turn, hour)
+}
+
+/// One to three hours with these readings and figures; right, or one up.
+pub fn heavy(random: &mut Random, turn: usize, (readings, figures): (Readings, [u128; 4])) -> Vec<u8> {
     let (year, quarter) = year_and_quarter(random);
-    let (readings, figures) =
-        if turn % 2 == 0 { MOST_PASSING } else { (MOST_WRITTEN, written_figures(&MOST_WRITTEN)) };
     let hour = |hour_of_quarter| Hour { hour_of_quarter, time: 100, readings, figures };
     let hours = rising_hours(random, year, quarter, 1 + turn / 2).into_iter().map(hour).collect();
     let mut report = Report { year, quarter, name: name(random), hours, ..Report::default() };

@@ -5,8 +5,9 @@
 //! its year and quarter, an answer around its mean.
 
 use super::{distinct, family_of, Family};
+use crate::calendar::MOST_HOURS;
 use crate::random::Random;
-use crate::year_to_date::{join, Outcome, ANSWER, MOST_HOURS, MOST_SUM, RECORD};
+use crate::year_to_date::{join, Outcome, ANSWER, MOST_SUM, RECORD};
 
 /// Places in a record; its amounts follow.
 const YEAR: usize = 0;

@@ -3,9 +3,11 @@
 
 use second::cases::Case;
 use second::check::{check, Answer, Fault};
+use second::conversion::convert;
 use second::figures::{Gas, Monitor, Readings};
 use second::generate::cases;
 use second::layout::*;
+use second::write::Order;
 use std::collections::BTreeMap;
 use std::ops::RangeInclusive;
 use std::sync::LazyLock;
@@ -22,6 +24,20 @@ pub fn files() -> impl Iterator<Item = (&'static [u8], u32, usize)> {
         Case::File(bytes) => {
             let (number, line) = refusal(bytes);
             Some((bytes.as_slice(), number, line))
+        }
+        _ => None,
+    })
+}
+
+/// What the writer is asked for in seed 1, with its room: sheets that are given so,
+/// and those that are converted first.
+pub fn sheets_to_write() -> impl Iterator<Item = (Order, usize)> {
+    CASES.iter().filter_map(|case| match case {
+        Case::Write { order, room } => Some((order.clone(), *room)),
+        Case::Convert { order, room } => {
+            let mut order = order.clone();
+            convert(&mut order.words).ok()?;
+            Some((order, *room))
         }
         _ => None,
     })

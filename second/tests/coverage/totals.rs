@@ -4,7 +4,7 @@
 use super::files::*;
 use second::figures::FIGURES;
 use second::generate::recorder::column_limits;
-use second::generate::tons::{MOST_PASSING, MOST_WRITTEN};
+use second::generate::tons::{FORMER_MOST_PASSING, FORMER_MOST_WRITTEN, MOST_WRITTEN};
 use second::layout::*;
 use std::collections::BTreeMap;
 
@@ -127,7 +127,8 @@ fn nox_tons_that_differ() {
 /// heaviest hours; with idle hours, and with zeros before the number.
 #[test]
 fn nox_tons_that_are_right() {
-    let heaviest = FIGURES.map(|figure| figure.of_recorded(&MOST_WRITTEN));
+    let [heaviest, former] =
+        [MOST_WRITTEN, FORMER_MOST_WRITTEN].map(|hour| FIGURES.map(|figure| figure.of_recorded(&hour)));
     let mut sorts = Sorts::new();
     for (file, ..) in files().filter(|&(_, number, _)| number == 0) {
         let lines = lines_of(file);
@@ -139,10 +140,11 @@ fn nox_tons_that_are_right() {
             ("just below half a tenth", sum % unit == HALF - 1),
             ("none", sum == 0),
             ("many", sum > 100 * unit),
-            ("of the heaviest written hours", hours.iter().any(|(_, _, figures)| *figures == heaviest)),
+            ("of the heaviest hours", hours.iter().any(|(_, _, figures)| *figures == heaviest)),
+            ("of the former heaviest written ones", hours.iter().any(|(_, _, figures)| *figures == former)),
             (
-                "of the heaviest hours that pass",
-                hours.iter().any(|(_, _, figures)| *figures == MOST_PASSING.1),
+                "of the former heaviest that pass",
+                hours.iter().any(|(_, _, figures)| *figures == FORMER_MOST_PASSING.1),
             ),
             ("with idle hours", sum > unit && lines.iter().any(|line| is_idle(line))),
             ("zeros before", columns.starts_with(b"00")),
@@ -152,7 +154,9 @@ fn nox_tons_that_are_right() {
     }
     assert_sorts(&sorts, &["half a tenth", "just below half a tenth"], 5);
     assert_sorts(&sorts, &["none", "many", "with idle hours", "zeros before"], 10);
-    assert_sorts(&sorts, &["of the heaviest written hours", "of the heaviest hours that pass"], 1);
+    let heavy =
+        ["of the heaviest hours", "of the former heaviest written ones", "of the former heaviest that pass"];
+    assert_sorts(&sorts, &heavy, 1);
 }
 
 /// Whether NOx tons are no number, but would be without their first column.
@@ -213,18 +217,28 @@ fn most_nox(heat: fn(u64, u64) -> u64, rate: fn(u64, u64) -> u64) -> u128 {
     most.into()
 }
 
-/// The hours that are called those with the most NOx: no written hour has more, and
-/// none that passes.
+/// The hours that are called those with the most NOx: no hour has more.
 #[test]
 fn hours_with_the_most_nox() {
     let written = FIGURES.map(|figure| figure.of_recorded(&MOST_WRITTEN));
+    assert!(FLOW.in_range(MOST_WRITTEN.flow * FLOW.unit));
+    // CO2 fits, and the others are the largest that their columns hold.
+    let limits = column_limits();
+    assert!(written[..3] == limits[..3] && written[3] <= limits[3]);
+}
+
+/// Of those with flows up to the former limit, no written hour has more, and none
+/// that passes.
+#[test]
+fn former_hours_with_the_most_nox() {
+    let written = FIGURES.map(|figure| figure.of_recorded(&FORMER_MOST_WRITTEN));
     assert!(written.iter().zip(column_limits()).all(|(&figure, limit)| figure <= limit));
     let rounded = most_nox(
         |co2, fc| (200 * 500_000 * co2 + fc) / (2 * fc),
         |co2, fc| (2 * 1_194 * fc * 99_999 + 1_000_000 * co2) / (2_000_000 * co2),
     );
     assert_eq!(rounded, written[0] * written[2]);
-    let (readings, figures) = MOST_PASSING;
+    let (readings, figures) = FORMER_MOST_PASSING;
     assert!(FIGURES.iter().zip(figures).all(|(figure, number)| figure.possible(&readings, number)));
     // In halves, the figures' spans start below the value of the readings' spans' ends;
     // for the rate, where that of CO2 starts.

@@ -125,7 +125,7 @@ fn largest_co2(heat: u128) -> u128 {
     (1..=co2).map(figure).max().unwrap_or(0)
 }
 
-/// The most NOx tons. Not every hour's heat and NOx rate can be the largest.
+/// The most NOx tons: those of a quarter of hours with the most NOx.
 fn largest_tons() -> u128 {
     let figures = FIGURES.map(|figure| figure.of_recorded(&MOST_WRITTEN));
     let [.., tons] = totals_of(repeat_n((100, &figures), MOST_HOURS));

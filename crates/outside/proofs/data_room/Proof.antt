@@ -4,7 +4,7 @@ use Rattle.outside.proofs.data_room.Statement.{statement}
 use Rattle.outside.proofs.data_room.Tie as tie
 
 returns : tie.Need-returns
-returns c = zeros 3000000
+returns c = zeros 4000000
 
 pub data-room-spec : {M : Type 1} → statement M
 data-room-spec = tie.close (tie.spec returns)

@@ -8,9 +8,6 @@ use Rattle.outside.proofs.print_sum.Tie as tie
 slice-aggregate-print-line : tie.Need-slice-aggregate-print-line
 slice-aggregate-print-line c = search needs
 
-adler-requires : tie.Need-adler-requires
-adler-requires c κs = search needs
-
 slice-aggregate-print-line-2 : tie.Need-slice-aggregate-print-line-2
 slice-aggregate-print-line-2 c = search needs
 
@@ -34,7 +31,6 @@ print-sum-spec =
     tie.close
     (tie.spec
     slice-aggregate-print-line
-    adler-requires
     slice-aggregate-print-line-2
     print-line-requires
     array-share-prefix-line

@@ -1,4 +1,4 @@
--- A kind that is none of the three ends the data.
+-- A kind that is none of the four ends the data.
 use native.Mathlib.Omega.{arith}
 use lib.ListN.{length-take}
 use borrow.Author.Needs.{needs}

@@ -1,8 +1,7 @@
--- 45, then 46, then the number in the columns.
+-- 45, then 46, then the units.
 use Prim.Native.Nat.{_*_, _≤_, _<_, _^_}
 use mathlib.Core.Path.{_≡_, sym, ap, ap₂, _∙_}
 use mathlib.Core.Bool.{true}
-use native.Mathlib.Nat.{lt-of-le-of-lt}
 use native.Mathlib.Omega.{arith}
 use borrow.Author.Needs.{needs}
 use borrow.Author.Tests.{not-true, not-false}
@@ -81,7 +80,7 @@ returns c =
     let p = c .before .before in
     let s = start p in
     let e = sym (p .parts-of .ensures .told) ∙ not-true _ (c .if1 .taken) in
-    record { fault = fault-45 (s .args .c) (s .args .x) e; held = omega arith; value = λ z. absurd (omega arith) }
+    record { fault = fault-45 (s .args .c) (s .args .x) e; held = omega arith; units = λ z. absurd (omega arith) }
 
 returns-2 : tie.Need-returns-2
 returns-2 c =
@@ -92,7 +91,7 @@ returns-2 c =
     record {
       fault = fault-46 (s .args .c) (s .args .x) e (beyond (s .args .c) (s .args .x) (p .parts-of .result) (p .parts-of .ensures) e (c .if2 .taken));
       held = omega arith;
-      value = λ z. absurd (omega arith);
+      units = λ z. absurd (omega arith);
     }
 
 channel-row-requires : tie.Need-channel-row-requires
@@ -103,8 +102,8 @@ count-at-requires c κs =
     let e = small c in
     (parted (usable-there e) .parts-of .ensures .short, e .if2 .left, rw (c .channel-row .ensures) (row-room (channel e)))
 
-mul-value : tie.Need-mul-value
-mul-value c = record { fits = fits (c .before) }
+mul-in-range : tie.Need-mul-in-range
+mul-in-range c = record { fits = fits (c .before) }
 
 in-range-requires : tie.Need-in-range-requires
 in-range-requires c κs = search needs
@@ -116,7 +115,7 @@ returns-3 c =
     record {
       fault = fault-46 (channel e) (x e) (is-usable (usable-there e)) (sym (tested t) ∙ not-true _ (c .if3 .taken));
       held = omega arith;
-      value = λ z. absurd (omega arith);
+      units = λ z. absurd (omega arith);
     }
 
 returns-4 : tie.Need-returns-4
@@ -127,8 +126,8 @@ returns-4 c =
     let i = sym (tested t) ∙ not-false _ (c .if3 .left) in
     record {
       fault = fault-none (channel e) (x e) (is-usable (usable-there e)) i;
-      held = rw (number n) (lt-of-le-of-lt (in-range-true (columnOf (channel e)) (columnNumber (channel e) (x e)) i .1) (most-held (channel e)));
-      value = λ z. number n;
+      held = rw (counted n) (most-held (channel e) _ (in-range-true (columnOf (channel e)) (columnNumber (channel e) (x e)) i .1));
+      units = λ z. counted n;
     }
 
 pub float-tried-spec : {M : Type 1} → statement M
@@ -140,7 +139,7 @@ float-tried-spec =
     returns-2
     channel-row-requires
     count-at-requires
-    mul-value
+    mul-in-range
     in-range-requires
     returns-3
     returns-4)

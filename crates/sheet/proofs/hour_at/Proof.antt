@@ -3,8 +3,10 @@ use Prim.Native.Nat.{ℕ, _*_, _/_, _%_}
 use mathlib.Core.Path.{_≡_}
 use mathlib.Core.List.{List}
 use native.Mathlib.Nat.{add-zero}
+use native.Mathlib.Omega.{arith}
 use lib.ListN.{getD}
-use Rattle.sheet.specs.Sheet.{hourWords, wordValue, sheetValue, timeSize, sheetHour}
+use Rattle.layout.specs.Values.{flowScfh}
+use Rattle.sheet.specs.Sheet.{hourWords, wordValue, sheetValue, timeSize, sheetHour, sheetHourIn}
 use Rattle.sheet.specs.declared.SheetHour.{SheetHour}
 use borrow.Author.Needs.{needs}
 use Rattle.sheet.proofs.hour_at.Statement.{statement}
@@ -40,6 +42,9 @@ add-word-value-4 c = search needs
 word-value-requires-5 : tie.Need-word-value-requires-5
 word-value-requires-5 c κs = search needs
 
+mul-t16 : tie.Need-mul-t16
+mul-t16 c = let w = c .before .word-value5 .ensures in omega arith
+
 add-word-value-5 : tie.Need-add-word-value-5
 add-word-value-5 c = search needs
 
@@ -49,14 +54,14 @@ word-value-requires-6 c κs = search needs
 told : (sheet : List ℕ) (k : ℕ) {hour so2 nox co2 scfh fc : ℕ} → hour ≡ wordValue (getD sheet (hourWords * k) 0) → so2 ≡ sheetValue sheet k 1
     → nox ≡ sheetValue sheet k 2 → co2 ≡ sheetValue sheet k 3 → scfh ≡ sheetValue sheet k 4 → fc ≡ sheetValue sheet k 5
     → _≡_ {A = SheetHour}
-    (record { hour = hour / timeSize; time = hour % timeSize; so2 = so2; nox = nox; co2 = co2; scfh = scfh; fc = fc })
+    (record { hour = hour / timeSize; time = hour % timeSize; so2 = so2; nox = nox; co2 = co2; scfh = flowScfh .step * scfh; fc = fc })
     (sheetHour sheet k)
-unfolding sheetHour
+unfolding sheetHourIn
 told sheet k h s n c f g = rw (h, s, n, c, f, g, add-zero)
 
 returns : tie.Need-returns
 returns c =
-    let f = c .before in
+    let f = c .before .before in
     let d = f .before in
     let n = d .before in
     let s = n .before in
@@ -77,6 +82,7 @@ hour-at-spec =
     word-value-requires-4
     add-word-value-4
     word-value-requires-5
+    mul-t16
     add-word-value-5
     word-value-requires-6
     returns)

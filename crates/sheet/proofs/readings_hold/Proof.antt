@@ -3,7 +3,7 @@ use mathlib.Core.Path.{_≡_}
 use mathlib.Core.Bool.{Bool, _&&_}
 use borrow.Author.Needs.{needs}
 use Rattle.layout.specs.Values.{within, timeHours, so2Ppm, noxPpm, co2Percent, flowScfh, fFactor}
-use Rattle.sheet.specs.SheetTests.{readingsHold}
+use Rattle.sheet.specs.SheetTests.{readingsHold, readingsHoldIn}
 use Rattle.sheet.specs.declared.SheetHour.{SheetHour}
 use Rattle.sheet.proofs.readings_hold.Statement.{statement}
 use Rattle.sheet.proofs.readings_hold.Tie as tie
@@ -29,7 +29,7 @@ within-requires-6 c κs = search needs
 told : (h : SheetHour) {t s n c f k : Bool} → t ≡ within timeHours (h .time) → s ≡ within so2Ppm (h .so2)
     → n ≡ within noxPpm (h .nox) → c ≡ within co2Percent (h .co2) → f ≡ within flowScfh (h .scfh)
     → k ≡ within fFactor (h .fc) → t && s && n && c && f && k ≡ readingsHold h
-unfolding readingsHold
+unfolding readingsHoldIn
 told h t s n c f k = rw (t, s, n, c, f, k)
 
 returns : tie.Need-returns

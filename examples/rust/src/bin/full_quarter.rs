@@ -12,7 +12,7 @@ fn damage(report: &mut [u8]) {
 }
 
 fn main() -> ExitCode {
-    let Some(mut report) = quarter::written(2004, 3, HOURS, 20_000_000) else {
+    let Some(mut report) = quarter::written(2004, 3, HOURS, 20_000) else {
         return ExitCode::FAILURE;
     };
     println!("{}", edr::check(&report));

@@ -1,9 +1,11 @@
 //! An hour from a recorder, from Rust: makes its words, writes its report and checks it; then three hours that are refused.
 
+mod report;
+
 use std::process::ExitCode;
 
 use edr::Reading::{Absent, Measured, Substituted};
-use edr::{hour_word, word, Answer, Kind, Recorded, RecorderHour, Written};
+use edr::{hour_word, word, Kind, Recorded, RecorderHour};
 
 /// The float 250.35 lies below 250.35 and is recorded as 250.3. 12.25 and 20,000,500 lie halfway and are recorded as 12.3 and
 /// 20,001,000.
@@ -30,19 +32,10 @@ fn recorded(hour: RecorderHour) -> Option<[u32; edr::RECORDER_READINGS]> {
     }
 }
 
-/// Writes the report of one hour, these words between those of hour and Fc, checks it, and prints what writer and check say. Returns
-/// whether it is accepted.
+/// The report of one hour, these words between those of hour and Fc. Returns whether it is accepted.
 fn reported([so2, nox, co2, flow]: [u32; edr::RECORDER_READINGS]) -> bool {
-    let sheet = [hour_word(0, 50), so2, nox, co2, flow, word(Kind::Fc, 18_000)]; // operating time 0.50
-    let mut report = [0; edr::report_length(1)];
-    let written = edr::write(2005, 3, b"STACK1", &sheet, &mut report);
-    println!("{written}");
-    if let Written::Refused(_) = written {
-        return false;
-    }
-    let answer = edr::check(&report);
-    println!("{answer}");
-    matches!(answer, Answer::Accepted(_))
+    report::reported(&[hour_word(0, 50), so2, nox, co2, flow, word(Kind::Fc, 18_000)])
+    // operating time 0.50
 }
 
 fn main() -> ExitCode {

@@ -10,8 +10,7 @@ use edr::{Answer, Joined, YearToDate};
 const YEAR: u64 = 2004;
 
 /// The hours of each quarter, which all operate, and their flows.
-const MADE_UP: [(usize, u32); 4] =
-    [(2184, 22_000_000), (2184, 16_000_000), (2208, 20_000_000), (2208, 18_000_000)];
+const MADE_UP: [(usize, u32); 4] = [(2184, 22_000), (2184, 16_000), (2208, 20_000), (2208, 18_000)];
 
 /// The record of a quarter, given that of the one before; it is printed. None if something is refused.
 fn joined(previous: YearToDate, quarter: u64, (hours, flow): (usize, u32)) -> Option<YearToDate> {

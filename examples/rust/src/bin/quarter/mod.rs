@@ -2,14 +2,14 @@
 
 use edr::{hour_word, word, Kind, Written};
 
-/// Made-up readings of an hour of the quarter, with a flow from this one on, a whole thousand.
+/// Made-up readings of an hour of the quarter, with a flow from this one on, in thousands of scfh.
 fn words_of(hour: u32, flow: u32) -> [u32; edr::HOUR_WORDS] {
     [
         hour_word(hour, 100), // operating time 1.00
         word(Kind::So2, 2_000 + hour % 1_000),
         word(Kind::Nox, 1_500 + hour % 700),
         word(Kind::Co2, 100 + hour % 40),
-        word(Kind::Flow, flow + 1_000 * hour),
+        word(Kind::Flow, flow + hour),
         word(Kind::Fc, 18_000),
     ]
 }
