@@ -1,4 +1,6 @@
 // The year to date: a year's record, quarter by quarter.
+#![tactic(auto)]
+
 ghost use Rattle.std.specs.Prelude.{◌≡◌, ◌+◌, leb};
 ghost use Rattle.annual.specs.Joined.{year_limit, all_zeros, follows, joined_of};
 

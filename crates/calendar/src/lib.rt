@@ -1,4 +1,6 @@
 // Gregorian dates and the hours of a quarter. The first hour of a quarter is 0.
+#![tactic(auto)]
+
 ghost use Rattle.std.specs.Prelude.{◌≡◌, ◌+◌, ◌≤◌, ◌<◌};
 ghost use Rattle.calendar.specs.Calendar.{IsQuarter, leap_year, days_in_month, first_month, hours_in_quarter, days_before, quarter_hour, date_of_hour};
 

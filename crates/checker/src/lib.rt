@@ -1,4 +1,6 @@
 // The check of a quarterly stack report: file and lines, then every hour's figures, then the totals.
+#![tactic(auto)]
+
 ghost use Rattle.std.specs.Prelude.{◌≡◌};
 ghost use Rattle.reading.specs.Places.{Standing};
 ghost use Rattle.checker.specs.Checked.{line_named, verdict_on, judged, checked};

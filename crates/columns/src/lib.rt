@@ -1,4 +1,6 @@
 // Numbers in fixed columns of a line, counted from 1, as they are read.
+#![tactic(auto)]
+
 ghost use Rattle.std.specs.Prelude.{◌≡◌, ◌+◌, ◌*◌, ◌^◌, ◌<◌, ◌≤◌, true, length};
 ghost use Rattle.columns.specs.Bytes.{is_blank, is_printable, all, same};
 ghost use Rattle.columns.specs.Columns.{Inside, columns};

@@ -1,4 +1,6 @@
 // Sheets that plants have kept, of the first form, made into the present one: the flow word, which had scfh, counts thousands.
+#![tactic(auto)]
+
 ghost use Rattle.std.specs.Prelude.{◌≡◌};
 ghost use Rattle.conversion.specs.Conversion.{kind_right, flow_right, each_word, conversion_refusal, recoded, recoded_from};
 ghost use Rattle.conversion.specs.Conversion.{converted, conversion_answer, converted_number};

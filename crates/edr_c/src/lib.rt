@@ -1,4 +1,6 @@
 // The boundary for C and Rust: the check, the writer, the year to date, a recorder's hour and a kept sheet on plain numbers and slices.
+#![tactic(auto)]
+
 ghost use Rattle.std.specs.Prelude.{◌≡◌, ◌≤◌, ◌<◌, length, get_or};
 ghost use Rattle.std.specs.Float.{nan};
 ghost use Rattle.edr_c.specs.Boundary.{answer_length, year_length, check_code, check_filled, write_code, write_filled};

@@ -1,4 +1,6 @@
 // Reads a quarterly stack report from standard input and prints what the check answers to it, or "too long", in one line.
+#![tactic(auto)]
+
 ghost use Rattle.std.specs.Prelude.{◌≡◌, ◌≤◌, length};
 ghost use Rattle.columns.specs.Columns.{put};
 ghost use Rattle.checker.specs.Checked.{checked};

@@ -1,7 +1,7 @@
 -- What a span's readings leave are divisors of the span turned over, so the quotient law serves them as it stands.
 use Rattle.std.specs.Prelude.{◌≡◌, refl, true, ◌↔◌, ℕ, ◌+◌, ◌*◌, ◌-◌, ◌≤◌, ◌<◌}
 use Rattle.std.proofs.Common.{ap, mul-pos, mul-le-mul_left, le_of_lt, arith}
-use Rattle.std.proofs.Math.Logic.{Iff·trans}
+use Rattle.std.proofs.Math.Logic.Iff
 use Rattle.std.proofs.Math.Nat.{mul-lt-mul_of_pos_left, le_of_mul-le-mul_left, lt_of_mul-lt-mul_left}
 use Rattle.std.proofs.Math.Decide.{dec_lt}
 use Rattle.exact.specs.Fraction.{Fraction, Positive, ◌≤ᶠ◌, ◌<ᶠ◌, ◌⊗◌, ◌÷◌, plain, fraction}
@@ -86,7 +86,7 @@ module _ (c : Positive) (s t : Span) (top from below : ℕ) (low : from + t.belo
 
   pub rest_law : (ratio_meets c.num c.den s (turned t top from below low high) r ≡ true) ↔ BehindRest c s t top r
   rest_law =
-      Iff·trans (quotient_law c s (turned t top from below low high) e (Leaves t top from below low high) (fallen t top from below low high) r) (
+      Iff.trans (quotient_law c s (turned t top from below low high) e (Leaves t top from below low high) (fallen t top from below low high) r) (
         λ b.
             let w = b.right_in in
             let own = left_of t top from below low high w.reading w.reading_in_lem in

@@ -1,6 +1,6 @@
 -- The product law: two values of two spans have c·x·y in a target range exactly where the range meets [c·low·low, c·high·high).
 use Rattle.std.specs.Prelude.{◌≡◌, true, ◌↔◌, ℕ, ◌*◌, ◌<◌}
-use Rattle.std.proofs.Math.Logic.{Iff·trans}
+use Rattle.std.proofs.Math.Logic.Iff
 use Rattle.std.proofs.Common.{mul-pos, mul-lt-mul_of_pos_right, le_of_lt, arith}
 use Rattle.std.proofs.Math.Nat.{mul-lt-mul_of_pos_left, lt_of_mul-lt-mul_left}
 use Rattle.exact.specs.Fraction.{Fraction, Positive, ◌<ᶠ◌, ◌⊗◌, plain}
@@ -63,4 +63,4 @@ module _ (c : Positive) (s t r : Span) where
           }
 
   pub product_law : (product_meets c.num c.den s t r ≡ true) ↔ BehindProduct c s t r
-  product_law = Iff·trans (meets_true _ _ _ _) (finds, fits)
+  product_law = Iff.trans (meets_true _ _ _ _) (finds, fits)

@@ -2,7 +2,7 @@
 -- c·low/high to c·high/low. It is the same whichever end of the divisors is allowed, so it serves a recorded divisor and one
 -- that falls with its reading.
 use Rattle.std.specs.Prelude.{◌≡◌, true, ◌↔◌, ℕ, ◌*◌, ◌≤◌, ◌<◌}
-use Rattle.std.proofs.Math.Logic.{Iff·trans}
+use Rattle.std.proofs.Math.Logic.Iff
 use Rattle.std.proofs.Common.{mul-pos, mul-lt-mul_of_pos_right, le_of_lt, lt_of_le_of_lt, arith}
 use Rattle.std.proofs.Math.Nat.{mul-lt-mul_of_pos_left, lt_of_mul-lt-mul_left}
 use Rattle.exact.specs.Fraction.{Fraction, Positive, ◌≤ᶠ◌, ◌<ᶠ◌, ◌⊗◌, plain}
@@ -99,4 +99,4 @@ module _ (c : Positive) (s t : Span) (e : 0 < t.from) (D : Fraction → Type 0) 
               }
 
   pub quotient_law : (ratio_meets c.num c.den s t r ≡ true) ↔ BehindRatio c s D r
-  quotient_law = Iff·trans (meets_true _ _ _ _) (finds, (λ b. tests (fits b)))
+  quotient_law = Iff.trans (meets_true _ _ _ _) (finds, (λ b. tests (fits b)))

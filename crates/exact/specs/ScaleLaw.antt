@@ -1,6 +1,6 @@
 -- The scale law: a value of a span has c·x in a target range exactly where the range meets [c·low, c·high).
 use Rattle.std.specs.Prelude.{◌≡◌, true, ◌↔◌, ℕ, ◌*◌, ◌<◌}
-use Rattle.std.proofs.Math.Logic.{Iff·trans}
+use Rattle.std.proofs.Math.Logic.Iff
 use Rattle.std.proofs.Common.{mul-pos, mul-lt-mul_of_pos_right, arith}
 use Rattle.exact.specs.Fraction.{Fraction, Positive, ◌<ᶠ◌, ◌⊗◌, plain}
 use Rattle.exact.specs.FractionLaws.{le_lt_trans, scale_mono, scale_lt}
@@ -38,4 +38,4 @@ module _ (c : Positive) (s r : Span) where
       at (x, g) = record { reading = scaled s x; reading_in_lem = in_scaled s x g.low g.high; value_in = omega arith }
 
   pub scale_law : (scale_meets c.num c.den s r ≡ true) ↔ BehindScale c s r
-  scale_law = Iff·trans (meets_true _ _ _ _) (finds, fits)
+  scale_law = Iff.trans (meets_true _ _ _ _) (finds, fits)

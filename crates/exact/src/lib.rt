@@ -1,4 +1,6 @@
 // Half-up rounding and rounding spans in 64-bit arithmetic.
+#![tactic(auto)]
+
 ghost use Rattle.std.specs.Prelude.{◌≡◌, ◌+◌, ◌*◌, ◌<◌, ◌^◌};
 ghost use Rattle.exact.specs.Rounding.{low_end, high_end, nearest};
 ghost use Rattle.exact.specs.Behind.{meets};
@@ -25,6 +27,7 @@ pub fn ends_of(k: u64) -> Ends
 }
 
 // Whether the values from `low` to `high` meet the range from `from` up to but not including `below`.
+#[tactic(auto, unfolding(crate::specs::Behind::meets))]
 pub fn ranges_meet(low: u64, high: u64, from: u64, below: u64) -> bool
     ensures { result ≡ meets low high from below }
 {

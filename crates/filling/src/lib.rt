@@ -1,4 +1,6 @@
 // Numbers put into fixed columns of a line, counted from 1: digit by digit, from the last to the first, with no buffer between.
+#![tactic(auto)]
+
 ghost use Rattle.std.specs.Prelude.{◌≡◌, ◌+◌, ◌/◌, ◌≤◌, ◌<◌, ◌^◌, length, replicate};
 ghost use Rattle.columns.specs.Columns.{Inside, put};
 ghost use Rattle.columns.specs.Number.{fewest_columns};

@@ -3,7 +3,7 @@
 use Rattle.std.specs.Prelude.{◌≡◌, refl, Bool, true, false, cond, ◌↔◌, ℕ, ◌*◌, ◌<◌}
 use Rattle.std.proofs.Common.{sym, ap, ◌∙◌, true≢false, mul-pos, arith, lit<}
 use Rattle.std.proofs.lemmas.Bool.{false≢true}
-use Rattle.std.proofs.Math.Logic.{Iff·trans}
+use Rattle.std.proofs.Math.Logic.Iff
 use Rattle.exact.specs.Fraction.{Fraction, Positive, ◌⊗◌, plain, whole}
 use Rattle.exact.specs.FractionLaws.{quotient}
 use Rattle.exact.specs.Rounding.{Span, In, Records, recorded, span, low_end}
@@ -55,7 +55,7 @@ equation f c x y = record { form = f; factor = plain c; left = x; right = y }
 
 exact_form : (f : Form) (c : Positive) (x y : UnitCount) → Divides f y.count → (r : Span) → Exact (equation f c x y) r
 exact_form Product c x y d r =
-    Iff·trans (product_law c (span_of x) (span_of y) r) (
+    Iff.trans (product_law c (span_of x) (span_of y) r) (
       λ b. (record { left = b.left; right = b.right }, record { left = b.left_in; right = b.right_in }, b.value_in),
       λ p.
           record {
@@ -67,7 +67,7 @@ exact_form Product c x y d r =
           },
     )
 exact_form Quotient c x y d r =
-    Iff·trans (quotient_law c (span_of x) (span_of y) (mul-pos d y.unit.above) (In (span_of y)) (recorded_divisors (span_of y)) r) (
+    Iff.trans (quotient_law c (span_of x) (span_of y) (mul-pos d y.unit.above) (In (span_of y)) (recorded_divisors (span_of y)) r) (
       λ b. (record { left = b.left; right = b.right }, record { left = b.left_in; right = b.right_in }, b.value_in),
       λ p.
           record {
@@ -90,7 +90,7 @@ readings_exact q r w s =
 -- a heat behind a gas hour's SO2 figure
 gas_exact : (f : Figures) → (gas_meets f ≡ true) ↔ ((x : Fraction) × Records tenth x f.heat × Records tenth (plain gas_factor ⊗ x) f.so2)
 gas_exact f =
-    Iff·trans (scale_law gas_factor (span tenth f.heat) (span tenth f.so2)) (
+    Iff.trans (scale_law gas_factor (span tenth f.heat) (span tenth f.so2)) (
       λ b. (b.reading, b.reading_in_lem, b.value_in),
       λ p. record { reading = p.0; reading_in_lem = p.1; value_in = p.2 },
     )
@@ -101,12 +101,12 @@ Behind q h = (e : Entry q) × RoundsTo q h e × Records (unit_of q) (exact_value
 
 so2_exact : (h : Hour) → ReadingsWithin h.readings → (g : Bool) → h.gas ≡ g →
     (cond g (gas_meets h.figures) (readings_meet So2 h) ≡ true) ↔ Behind So2 h
-so2_exact h w true g = Iff·trans (gas_exact h.figures) (λ p. (from_heat p.0, (g, p.1), p.2), heat)
+so2_exact h w true g = Iff.trans (gas_exact h.figures) (λ p. (from_heat p.0, (g, p.1), p.2), heat)
   where
     heat : Behind So2 h → (x : Fraction) × Records tenth x h.figures.heat × Records tenth (plain gas_factor ⊗ x) h.figures.so2
     heat (monitored p, reads, gives) = absurd (true≢false (sym g ∙ reads.0))
     heat (from_heat x, reads, gives) = (x, reads.1, gives)
-so2_exact h w false g = Iff·trans (readings_exact So2 h.readings w (span tenth h.figures.so2)) (λ p. (monitored p.0, (g, p.1), p.2), pair)
+so2_exact h w false g = Iff.trans (readings_exact So2 h.readings w (span tenth h.figures.so2)) (λ p. (monitored p.0, (g, p.1), p.2), pair)
   where
     pair : Behind So2 h → (p : Pair) × PairRounds (equation_of So2 h.readings) p
         × Records tenth (equation_value (equation_of So2 h.readings) p) h.figures.so2
@@ -122,7 +122,7 @@ parts_exact Co2 h w = readings_exact Co2 h.readings w (span tenth h.figures.co2)
 
 pub test_exact : (q : Quantity) (h : Hour) → ReadingsWithin h.readings → (passes_test q h ≡ true) ↔ ((e : Entry q) × LiesBehind q h e)
 test_exact q h w =
-    Iff·trans (parts_exact q h w) (
+    Iff.trans (parts_exact q h w) (
       λ p. (p.0, record { reads = p.1; gives = p.2 }),
       λ p. (p.0, p.1.reads, p.1.gives),
     )

@@ -1,4 +1,6 @@
 // The four equations in 64-bit arithmetic: the test of a figure, and the rounded value of recorded readings.
+#![tactic(auto)]
+
 pub mod hour;
 
 ghost use Rattle.std.specs.Prelude.{◌≡◌, ◌*◌, ◌≤◌};

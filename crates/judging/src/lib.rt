@@ -1,4 +1,6 @@
 // How the hours and the totals of a quarter are judged, without a file and without a sheet.
+#![tactic(auto)]
+
 ghost use Rattle.std.specs.Prelude.{◌≡◌, eqb};
 ghost use Rattle.exact.specs.Faults.{◌or_else◌, unless};
 ghost use Rattle.judging.specs.Judged.{figure, figure_at, type_named, totals_fault, compared_totals};

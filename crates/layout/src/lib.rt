@@ -1,4 +1,6 @@
 // The records of a quarterly report: one row a type, and their order, for reader and writer alike.
+#![tactic(auto)]
+
 pub mod values;
 
 ghost use Rattle.std.specs.Prelude.{◌≡◌, ◌+◌, ◌*◌, ◌≤◌, ◌<◌, length};

@@ -1,4 +1,6 @@
 // The faults of one line, in the order in which they are looked for, and what lines 100, 200 and 300 say.
+#![tactic(auto)]
+
 mod faults;
 pub mod gas;
 pub mod operation;

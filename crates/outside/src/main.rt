@@ -1,4 +1,6 @@
 // Runs the check, the writer and the conversion on the cases of a file and prints what each answers, to be compared with what another implementation says.
+#![tactic(auto)]
+
 mod bytes_of;
 
 ghost use Rattle.std.specs.Prelude.{◌≡◌, ℕ, ◌+◌, ◌*◌, ◌/◌, ◌<◌, ◌≤◌, length, set};

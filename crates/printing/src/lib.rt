@@ -1,4 +1,6 @@
 // The line that the program prints for an answer.
+#![tactic(auto)]
+
 ghost use Rattle.std.specs.Prelude.{◌≡◌, ◌+◌, ◌≤◌, length};
 ghost use Rattle.columns.specs.Columns.{put};
 ghost use Rattle.printing.specs.Printed.{digit_count, spaced, printed_line, printed, longest_line};

@@ -1,4 +1,6 @@
 // File and line checks of a quarterly report: refusals 1 to 10, 43, 47 and 49.
+#![tactic(auto)]
+
 mod walk;
 
 ghost use Rattle.std.specs.Prelude.{◌≡◌};

@@ -1,4 +1,6 @@
 // What the records of a file whose lines are right say, found where the layout has them.
+#![tactic(auto)]
+
 ghost use Rattle.std.specs.Prelude.{◌≡◌, ◌<◌, length};
 ghost use Rattle.columns.specs.Number.{number_of};
 ghost use Rattle.layout.specs.Layout.{value_count, value_at, count_of};

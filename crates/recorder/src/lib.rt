@@ -1,4 +1,6 @@
 // An hour as a recorder hands it over, made into words of the sheet: each reading rounded half up from the exact value of its float.
+#![tactic(auto)]
+
 ghost use Rattle.std.specs.Prelude.{◌≡◌, ◌*◌, ◌≤◌, ◌<◌, ◌^◌};
 ghost use Rattle.recorder.specs.Recording.{substituted_in, recorded_of, recorder_numbers};
 ghost use Rattle.recorder.specs.Promise.{RecorderPromise};

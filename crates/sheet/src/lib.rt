@@ -1,5 +1,7 @@
 // The sheet: six words to an operating hour, each with its kind in the top three of 32 bits and its value in the others. The tests of 31
 // and 32 are here; the writer says in which order they refuse.
+#![tactic(auto)]
+
 ghost use Rattle.std.specs.Prelude.{◌≡◌, ◌+◌, ◌*◌, ◌≤◌, ◌<◌, length, get_or};
 ghost use Rattle.sheet.specs.Sheet.{value_size, kind_size, word_value, apart, word_of, hour_words, sheet_hour, recorded_readings, shape_of};
 ghost use Rattle.sheet.specs.SheetTests.{heading_holds, hour_kinds, hour_holds, readings_hold};

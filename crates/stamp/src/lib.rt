@@ -1,4 +1,6 @@
 // A date and hour as a record has it: YYMMDDHH.
+#![tactic(auto)]
+
 ghost use Rattle.std.specs.Prelude.{◌≡◌, ◌^◌, ◌<◌};
 ghost use Rattle.calendar.specs.Calendar.{IsQuarter, hours_in_quarter, TwoDigits};
 ghost use Rattle.columns.specs.Columns.{Inside, columns};

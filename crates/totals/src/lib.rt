@@ -1,4 +1,6 @@
 // The running totals of a quarter, and the quarter's totals rounded once.
+#![tactic(auto)]
+
 ghost use Rattle.std.specs.Prelude.{◌≡◌, ◌*◌, ◌<◌, ◌≤◌};
 ghost use Rattle.calendar.specs.Calendar.{most_hours};
 ghost use Rattle.layout.specs.Values.{nox_rate, heat_rate, time_hours};

@@ -1,4 +1,6 @@
 // The writer: a sheet of readings becomes a quarterly report in a lent buffer.
+#![tactic(auto)]
+
 mod refusals;
 mod report;
 
