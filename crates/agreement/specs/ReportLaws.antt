@@ -110,7 +110,7 @@ pub totals_within : (year quarter : ℕ) (hs : List ReportHour) → AllWritable 
     ValuesWithin (values_of QuarterTotals) (total_values (formed hs))
 totals_within year quarter hs a b =
     let f = totals_fit (recorded_hours hs) (recorded_within year quarter hs a) (omega (arith, recorded_length hs)) in
-    (f.so2, (f.co2, (f.heat, (f.nox, (f.nox_tons_lem, tt)))))
+    (f.so2, (f.co2, (f.heat, (f.nox, (f.nox_tons, tt)))))
 
 module _ (year quarter : ℕ) (name : List ℕ) (g : Heading year quarter name) (named : length name ≡ stack_width) (hs : List ReportHour) where
   abbrev records : RecordType → List (List ℕ)
@@ -229,6 +229,6 @@ module _ (year quarter : ℕ) (name : List ℕ) (g : Heading year quarter name) 
           right_so2_mass = run_right So2Mass (omega arith) hs a;
           right_nox_rate = run_right NoxRate (omega arith) hs a;
           right_co2_mass = run_right Co2Mass (omega arith) hs a;
-          hour_count_lem = sym (length-map hs (hour_record year quarter name So2Concentration));
+          hour_count = sym (length-map hs (hour_record year quarter name So2Concentration));
           operation_count = sym (length-map hs (hour_record year quarter name Operation));
         }

@@ -55,7 +55,7 @@ pub record SumsFit (previous : YearToDate) (answer : Quarter) : Type 0 where
   pub so2 : previous.so2 + answer.so2 ≤ year_limit
   pub co2 : previous.co2 + answer.co2 ≤ year_limit
   pub heat : previous.heat + answer.heat ≤ year_limit
-  pub nox_tons_lem : previous.nox_tons + answer.nox_tons ≤ year_limit
+  pub nox_tons : previous.nox_tons + answer.nox_tons ≤ year_limit
 
 pub sums_true : (previous : YearToDate) (answer : Quarter) → sums_fit previous answer ≡ true → SumsFit previous answer
 unfolding sums_fit
@@ -63,4 +63,4 @@ sums_true previous answer e =
     let c = both _ _ e in
     let b = both _ _ c.0 in
     let a = both _ _ b.0 in
-    record { so2 = leb-true _ _ a.0; co2 = leb-true _ _ a.1; heat = leb-true _ _ b.1; nox_tons_lem = leb-true _ _ c.1 }
+    record { so2 = leb-true _ _ a.0; co2 = leb-true _ _ a.1; heat = leb-true _ _ b.1; nox_tons = leb-true _ _ c.1 }

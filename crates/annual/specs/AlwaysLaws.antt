@@ -25,7 +25,7 @@ record After (year k : ℕ) (y : YearToDate) : Type 0 where
   so2 : y.so2 ≤ most_total * k
   co2 : y.co2 ≤ most_total * k
   heat : y.heat ≤ most_total * k
-  nox_tons_lem : y.nox_tons ≤ most_nox_tons * k
+  nox_tons : y.nox_tons ≤ most_nox_tons * k
 
 module _ (year k : ℕ) (y : YearToDate) (a : After year k y) (few : k < 4) (answer : Quarter) (m : QuarterMost answer) where
   next_follows : follows y year (suc k) answer ≡ true
@@ -41,7 +41,7 @@ module _ (year k : ℕ) (y : YearToDate) (a : After year k y) (few : k < 4) (ans
         le-leb (y.so2 + answer.so2) year_limit (omega (arith, a.so2, m.so2)),
         le-leb (y.co2 + answer.co2) year_limit (omega (arith, a.co2, m.co2)),
         le-leb (y.heat + answer.heat) year_limit (omega (arith, a.heat, m.heat)),
-        le-leb (y.nox_tons + answer.nox_tons) year_limit (omega (arith, a.nox_tons_lem, m.nox_tons_lem)),
+        le-leb (y.nox_tons + answer.nox_tons) year_limit (omega (arith, a.nox_tons, m.nox_tons)),
       )
 
   next_after : After year (suc k) (with_quarter y year (suc k) answer)
@@ -53,7 +53,7 @@ module _ (year k : ℕ) (y : YearToDate) (a : After year k y) (few : k < 4) (ans
     so2 = omega (arith, a.so2, m.so2);
     co2 = omega (arith, a.co2, m.co2);
     heat = omega (arith, a.heat, m.heat);
-    nox_tons_lem = omega (arith, a.nox_tons_lem, m.nox_tons_lem);
+    nox_tons = omega (arith, a.nox_tons, m.nox_tons);
   }
 
 joins : (parts : List Part) (year k : ℕ) (y : YearToDate) → After year k y → Consecutive year (suc k) parts → k + length parts ≤ 4 →
@@ -78,7 +78,7 @@ none_after year = record {
   so2 = omega arith;
   co2 = omega arith;
   heat = omega arith;
-  nox_tons_lem = omega arith;
+  nox_tons = omega arith;
 }
 
 pub always_joins : (year : ℕ) (parts : List Part) → Consecutive year 1 parts → length parts ≤ 4 →

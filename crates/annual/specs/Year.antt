@@ -89,7 +89,7 @@ pub record YearPromise (year : ℕ) (parts : List Part) (y : YearToDate) : Type 
   pub so2 : y.so2 ≡ total_of (λ p. p.answer.so2) parts
   pub co2 : y.co2 ≡ total_of (λ p. p.answer.co2) parts
   pub heat : y.heat ≡ total_of (λ p. p.answer.heat) parts
-  pub nox_tons_lem : y.nox_tons ≡ total_of (λ p. p.answer.nox_tons) parts
+  pub nox_tons : y.nox_tons ≡ total_of (λ p. p.answer.nox_tons) parts
   -- behind each quantity stand unrounded readings; whichever they are, the exact year lies near the reported one
   pub behind : (q : Quantity) → (ess : List (List (Entry q))) × BehindAll q parts ess
   pub bounds : (q : Quantity) (s : Summed q) (ess : List (List (Entry q))) → BehindAll q parts ess →

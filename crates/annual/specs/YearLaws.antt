@@ -10,7 +10,7 @@ use Rattle.exact.specs.SumLaws.{sum_near}
 use Rattle.formulas.specs.Hour.{tenth}
 use Rattle.formulas.specs.Formulas.{Entry}
 use Rattle.formulas.specs.declared.hour.Quantity.{Quantity}
-use Rattle.formulas.specs.declared.hour.Quantity.TheVariants.{Heat, So2, Co2}
+use Rattle.formulas.specs.declared.hour.Quantity.TheVariants.{Heat, So2, Co2, Nox}
 use Rattle.totals.specs.Mass.{mass_tons}
 use Rattle.totals.specs.declared.Quarter.{Quarter}
 use Rattle.reading.specs.Recorded.{hours_of}
@@ -85,7 +85,7 @@ record Grown (before : YearToDate) (parts : List Part) (y : YearToDate) : Type 0
   so2 : y.so2 ≡ before.so2 + total_of (λ p. p.answer.so2) parts
   co2 : y.co2 ≡ before.co2 + total_of (λ p. p.answer.co2) parts
   heat : y.heat ≡ before.heat + total_of (λ p. p.answer.heat) parts
-  nox_tons_lem : y.nox_tons ≡ before.nox_tons + total_of (λ p. p.answer.nox_tons) parts
+  nox_tons : y.nox_tons ≡ before.nox_tons + total_of (λ p. p.answer.nox_tons) parts
 
 grown : (ps : List Part) (before y : YearToDate) → joined_from before ps ≡ Record y → Grown before ps y
 unfolding joined_from hours_in total_of
@@ -99,7 +99,7 @@ grown [] before y e =
       so2 = at (λ x. x.so2);
       co2 = at (λ x. x.co2);
       heat = at (λ x. x.heat);
-      nox_tons_lem = at (λ x. x.nox_tons);
+      nox_tons = at (λ x. x.nox_tons);
     }
 grown (p ∷ ps) before y e =
     let t = then_record (joined_of before p.year p.quarter p.answer) (λ x. joined_from x ps) y e in
@@ -116,7 +116,7 @@ grown (p ∷ ps) before y e =
       so2 = omega (arith, g.so2);
       co2 = omega (arith, g.co2);
       heat = omega (arith, g.heat);
-      nox_tons_lem = omega (arith, g.nox_tons_lem);
+      nox_tons = omega (arith, g.nox_tons);
     }
 
 -- a record whose hours and sums are those of the parts
@@ -127,6 +127,7 @@ module _ (parts : List Part) (y : YearToDate) (h : y.hours ≡ hours_in parts) w
   year_near a b c So2 so2 ess l = rw (a, h) (parts_near So2 (λ r. r.so2) 40_000 (lit< tt) (part_near So2) parts ess l)
   year_near a b c Co2 co2 ess l = rw (b, h) (parts_near Co2 (λ r. r.co2) 20 (lit< tt) (part_near Co2) parts ess l)
   year_near a b c Heat heat ess l = rw (c, h) (parts_near Heat (λ r. r.heat) 20 (lit< tt) (part_near Heat) parts ess l)
+  year_near a b c Nox s ess l = elim s [ ]
 
 pub year_promise : (year : ℕ) (parts : List Part) (y : YearToDate) → year_numbers (joined_from (none_of year) parts) ≡ year_numbers (Record y) →
     YearPromise year parts y
@@ -137,7 +138,7 @@ year_promise year parts y e =
     let a : y.so2 ≡ total_of (λ p. p.answer.so2) parts = omega (arith, g.so2) in
     let b : y.co2 ≡ total_of (λ p. p.answer.co2) parts = omega (arith, g.co2) in
     let c : y.heat ≡ total_of (λ p. p.answer.heat) parts = omega (arith, g.heat) in
-    let d : y.nox_tons ≡ total_of (λ p. p.answer.nox_tons) parts = omega (arith, g.nox_tons_lem) in
+    let d : y.nox_tons ≡ total_of (λ p. p.answer.nox_tons) parts = omega (arith, g.nox_tons) in
     record {
       same_year = g.same_year;
       last = omega (arith, g.last);
@@ -146,7 +147,7 @@ year_promise year parts y e =
       so2 = a;
       co2 = b;
       heat = c;
-      nox_tons_lem = d;
+      nox_tons = d;
       behind = λ q. parts_behind q parts;
       bounds = year_near parts y h a b c;
       mass = rw d (parts_mass parts);

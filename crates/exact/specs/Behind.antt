@@ -16,7 +16,7 @@ ratio c x z = (plain c ⊗ x) ÷ z
 -- c·x, of one reading
 pub record BehindScale (c : Positive) (s r : Span) : Type 0 where
   pub reading : Fraction
-  pub reading_in_lem : In s reading
+  pub reading_in : In s reading
   pub value_in : In r (plain c ⊗ reading)
 
 pub record BehindProduct (c : Positive) (s t r : Span) : Type 0 where

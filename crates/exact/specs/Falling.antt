@@ -23,7 +23,7 @@ module _ (t : Span) (top from below : ℕ) (low : from + t.below ≡ top) (high 
   -- as large as what a value of the span leaves
   pub record Leaves (z : Fraction) : Type 0 where
     pub reading : Fraction
-    pub reading_in_lem : In t reading
+    pub reading_in : In t reading
     pub same : z.num * (t.scale * reading.den) ≡ (top * reading.den - reading.num * t.scale) * z.den
 
 -- c·x over what y leaves of the amount

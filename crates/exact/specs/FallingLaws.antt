@@ -19,7 +19,7 @@ module _ (t : Span) (top from below : ℕ) (low : from + t.below ≡ top) (high 
   Left = Leaves t top from below low high
 
   pub left_of : (y : Fraction) → In t y → Left (amount top t ⊖ y)
-  left_of y h = record { reading = y; reading_in_lem = h; same = refl }
+  left_of y h = record { reading = y; reading_in = h; same = refl }
 
   -- both ends, in parts of a denominator
   low_in : (d : ℕ) → from * d + t.below * d ≡ top * d
@@ -49,8 +49,8 @@ module _ (t : Span) (top from below : ℕ) (low : from + t.below ≡ top) (high 
         λ z l h.
         let m = top * z.den - z.num * t.scale in
         let c = chosen z l h m _ (omega (arith, h, high_in z.den)) refl in
-        record { reading = fraction m (t.scale * z.den) (mul-pos t.pos z.pos); reading_in_lem = c.0; same = c.1 };
-    within = λ z w. within z w.reading w.reading_in_lem _ (taken w.reading w.reading_in_lem) w.same;
+        record { reading = fraction m (t.scale * z.den) (mul-pos t.pos z.pos); reading_in = c.0; same = c.1 };
+    within = λ z w. within z w.reading w.reading_in _ (taken w.reading w.reading_in) w.same;
   }
     where
       within : (z y : Fraction) → In t y → (p : ℕ) → p + y.num * t.scale ≡ top * y.den → z.num * (t.scale * y.den) ≡ p * z.den →
@@ -89,12 +89,12 @@ module _ (c : Positive) (s t : Span) (top from below : ℕ) (low : from + t.belo
       Iff.trans (quotient_law c s (turned t top from below low high) e (Leaves t top from below low high) (fallen t top from below low high) r) (
         λ b.
             let w = b.right_in in
-            let own = left_of t top from below low high w.reading w.reading_in_lem in
+            let own = left_of t top from below low high w.reading w.reading_in in
             record {
               left = b.left;
               right = w.reading;
               left_in = b.left_in;
-              right_in = w.reading_in_lem;
+              right_in = w.reading_in;
               value_in =
                   same_quotient r (plain c ⊗ b.left) b.right (amount top t ⊖ w.reading) (above b.right w)
                   (above (amount top t ⊖ w.reading) own) w.same b.value_in;

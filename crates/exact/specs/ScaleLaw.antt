@@ -16,8 +16,8 @@ module _ (c : Positive) (s r : Span) where
   fits : BehindScale c s r → Meets
   fits b =
       let x = b.reading in (
-        le_lt_trans (plain c ⊗ first s) (plain c ⊗ x) (end r) (scale_mono (plain c) (first s) x b.reading_in_lem.low) b.value_in.high,
-        le_lt_trans (first r) (plain c ⊗ x) (plain c ⊗ end s) b.value_in.low (scale_lt (plain c) x (end s) c.above b.reading_in_lem.high),
+        le_lt_trans (plain c ⊗ first s) (plain c ⊗ x) (end r) (scale_mono (plain c) (first s) x b.reading_in.low) b.value_in.high,
+        le_lt_trans (first r) (plain c ⊗ x) (plain c ⊗ end s) b.value_in.low (scale_lt (plain c) x (end s) c.above b.reading_in.high),
       )
 
   finds : Meets → BehindScale c s r
@@ -35,7 +35,7 @@ module _ (c : Positive) (s r : Span) where
       q = r.below * (c.den * s.scale)
 
       at : (x : Fraction) × Solves s.from s.below k p q x → BehindScale c s r
-      at (x, g) = record { reading = scaled s x; reading_in_lem = in_scaled s x g.low g.high; value_in = omega arith }
+      at (x, g) = record { reading = scaled s x; reading_in = in_scaled s x g.low g.high; value_in = omega arith }
 
   pub scale_law : (scale_meets c.num c.den s r ≡ true) ↔ BehindScale c s r
   scale_law = Iff.trans (meets_true _ _ _ _) (finds, fits)

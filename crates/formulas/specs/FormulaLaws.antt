@@ -91,8 +91,8 @@ readings_exact q r w s =
 gas_exact : (f : Figures) → (gas_meets f ≡ true) ↔ ((x : Fraction) × Records tenth x f.heat × Records tenth (plain gas_factor ⊗ x) f.so2)
 gas_exact f =
     Iff.trans (scale_law gas_factor (span tenth f.heat) (span tenth f.so2)) (
-      λ b. (b.reading, b.reading_in_lem, b.value_in),
-      λ p. record { reading = p.0; reading_in_lem = p.1; value_in = p.2 },
+      λ b. (b.reading, b.reading_in, b.value_in),
+      λ p. record { reading = p.0; reading_in = p.1; value_in = p.2 },
     )
 
 -- what lies behind an hour's figure, part by part

@@ -164,7 +164,7 @@ module _ (file : List ℕ) (r : Report) (x : RightFile file r) where
 
   pub clean_file : CleanFile file r
   clean_file =
-      let same : own ≡ r.shape = rw (x.hour_count_lem, x.operation_count) in
+      let same : own ≡ r.shape = rw (x.hour_count, x.operation_count) in
       subst (λ (s : Shape). CleanFile file (record { period = r.period; shape = s })) same (record {
         standing = standing;
         rises = rw (own_hours 0 own.hours (omega arith)) placed.rises;

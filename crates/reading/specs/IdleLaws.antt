@@ -229,6 +229,6 @@ idle_right file less w r x =
       right_so2_mass = x.right_so2_mass;
       right_nox_rate = x.right_nox_rate;
       right_co2_mass = x.right_co2_mass;
-      hour_count_lem = x.hour_count_lem;
-      operation_count = x.hour_count_lem ∙ sym o.1;
+      hour_count = x.hour_count;
+      operation_count = x.hour_count ∙ sym o.1;
     }

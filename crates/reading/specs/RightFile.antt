@@ -54,5 +54,5 @@ pub record RightFile (file : List ℕ) (r : Report) : Type 0 where
   pub right_nox_rate : RightRun facility NoxRate hours nox_rate
   pub right_co2_mass : RightRun facility Co2Mass hours co2_mass
   -- what the check goes on with
-  pub hour_count_lem : r.shape.hours ≡ length hours
+  pub hour_count : r.shape.hours ≡ length hours
   pub operation_count : r.shape.operations ≡ length operations

@@ -296,7 +296,7 @@ walk_right file ended r w = start (lines file) refl w
           right_so2_mass = b.right_so2;
           right_nox_rate = b.right_nox;
           right_co2_mass = b.right_co2;
-          hour_count_lem = refl;
+          hour_count = refl;
           operation_count = refl;
         } in
         rw q.1 own
@@ -384,6 +384,6 @@ module _ (file : List ℕ) (r : Report) (x : RightFile file r) where
   pub right_read : read_of file ≡ Clean r
   unfolding walk_end right_complete
   right_read =
-      let own : shape_with (length x.hours) (length x.operations) ≡ r.shape = rw (x.hour_count_lem, x.operation_count) in
+      let own : shape_with (length x.hours) (length x.operations) ≡ r.shape = rw (x.hour_count, x.operation_count) in
       ended_walked file x.ended ∙ ap walk (sym (append-nil (lines file))) ∙ complete_passed (lines file) [] right_complete
       ∙ ap (λ (s : Shape). Clean (record { period = r.period; shape = s })) own

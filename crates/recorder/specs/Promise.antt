@@ -41,10 +41,10 @@ pub record StandIn (w : HourWords) (sheet : List ℕ) (k : ℕ) : Type 0 where
 
 -- 31 and 32 take the four words of that hour: their kinds are those of their places, their values lie in the columns' ranges
 pub record TakenIn (sheet : List ℕ) (k : ℕ) : Type 0 where
-  pub so2_kind_lem : sheet_kind sheet k so2_kind ≡ so2_kind
-  pub nox_kind_lem : sheet_kind sheet k nox_kind ≡ nox_kind
-  pub co2_kind_lem : sheet_kind sheet k co2_kind ≡ co2_kind
-  pub flow_kind_lem : sheet_kind sheet k flow_kind ≡ flow_kind
+  pub so2_kind : sheet_kind sheet k so2_kind ≡ so2_kind
+  pub nox_kind : sheet_kind sheet k nox_kind ≡ nox_kind
+  pub co2_kind : sheet_kind sheet k co2_kind ≡ co2_kind
+  pub flow_kind : sheet_kind sheet k flow_kind ≡ flow_kind
   pub so2 : Within so2_ppm (sheet_hour sheet k).so2
   pub nox : Within nox_ppm (sheet_hour sheet k).nox
   pub co2 : Within co2_percent (sheet_hour sheet k).co2

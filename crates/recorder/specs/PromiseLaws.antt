@@ -171,10 +171,10 @@ module _ (h : RecorderHour) (w : HourWords) (g : Given h w) (sheet : List ℕ) (
   taken_there : TakenIn sheet k
   unfolding sheet_hour_in
   taken_there = record {
-    so2_kind_lem = kind_there So2;
-    nox_kind_lem = kind_there Nox;
-    co2_kind_lem = kind_there Co2;
-    flow_kind_lem = kind_there Flow;
+    so2_kind = kind_there So2;
+    nox_kind = kind_there Nox;
+    co2_kind = kind_there Co2;
+    flow_kind = kind_there Flow;
     so2 = omega (arith, within_there So2);
     nox = omega (arith, within_there Nox);
     co2 = omega (arith, within_there Co2);

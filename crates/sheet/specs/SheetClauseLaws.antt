@@ -93,7 +93,7 @@ module _ (sheet : List ℕ) where
         let a = rise_first below from (sheet_hour sheet k) (ranked (sheet_hour sheet) (suc k) (suc left)) e in
         let z : k + suc j ≡ suc k + j = omega arith in
         let s : k + suc (suc j) ≡ suc k + suc j = omega arith in
-        rw (z, s) (later_from _ (suc k) (suc left) a.2 j (omega arith))
+        rw (z, s) (later_from (suc (hour_at sheet k)) (suc k) (suc left) a.2 j (omega arith))
 
     from_later : (from k left : ℕ) → (1 ≤ left → from ≤ hour_at sheet k) → ((j : ℕ) → j < left → hour_at sheet (k + j) < below) →
         ((j : ℕ) → suc j < left → hour_at sheet (k + j) < hour_at sheet (k + suc j)) → hours_rise below from (ranked (sheet_hour sheet) k left) ≡ true
@@ -111,7 +111,7 @@ module _ (sheet : List ℕ) where
         let s : k + suc j ≡ suc k + j = omega arith in
         let t : k + suc (suc j) ≡ suc k + suc j = omega arith in
         rw (s, t) at (later (suc j) (omega arith)) in
-        rw (le-leb from _ (first (omega arith)), lt-ltb _ below b, from_later _ (suc k) left next ahead on)
+        rw (le-leb from _ (first (omega arith)), lt-ltb _ below b, from_later (suc (hour_at sheet k)) (suc k) left next ahead on)
 
     abbrev Later : ℕ → Type 0
     Later k = 1 ≤ k → hour_at sheet (k - 1) < hour_at sheet k

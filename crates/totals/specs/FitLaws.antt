@@ -18,7 +18,7 @@ pub record QuarterWithin (q : Quarter) : Type 0 where
   pub co2 : Within co2_tons q.co2
   pub heat : Within heat_total q.heat
   pub nox : Within nox_mean q.nox
-  pub nox_tons_lem : Within nox_tons q.nox_tons
+  pub nox_tons : Within nox_tons q.nox_tons
 
 -- if one hour's share is at most c, then n hours' is at most n × c
 total_le : (m : Hour → ℕ) (c : ℕ) → ((h : Hour) → HourWithin h → m h ≤ c) → (hs : List Hour) → HoursWithin hs → total_of m hs ≤ length hs * c
@@ -47,7 +47,7 @@ pub record QuarterMost (q : Quarter) : Type 0 where
   pub so2 : q.so2 ≤ most_total
   pub co2 : q.co2 ≤ most_total
   pub heat : q.heat ≤ most_total
-  pub nox_tons_lem : q.nox_tons ≤ most_nox_tons
+  pub nox_tons : q.nox_tons ≤ most_nox_tons
 
 module _ (hs : List Hour) (w : HoursWithin hs) (b : length hs ≤ most_hours) where
   pub totals_most : QuarterMost (quarter_totals hs)
@@ -58,7 +58,7 @@ module _ (hs : List Hour) (w : HoursWithin hs) (b : length hs ≤ most_hours) wh
       let e = total_le (λ h. h.figures.heat * h.time) (heat_rate.most * time_hours.most) (λ h r. mul-le-mul r.figures.heat.most r.time.most) hs w in
       let m = total_le (λ h. mass_share h.figures h.time) (nox_rate.most * heat_rate.most * time_hours.most)
       (λ h r. mul-le-mul (mul-le-mul r.figures.nox.most r.figures.heat.most) r.time.most) hs w in
-      record { hours = b; so2 = omega arith; co2 = omega arith; heat = omega arith; nox_tons_lem = omega arith }
+      record { hours = b; so2 = omega arith; co2 = omega arith; heat = omega arith; nox_tons = omega arith }
 
   nox_most : (quarter_totals hs).nox ≤ nox_mean.most
   unfolding quarter_totals quarter_of totals_of
@@ -72,5 +72,5 @@ module _ (hs : List Hour) (w : HoursWithin hs) (b : length hs ≤ most_hours) wh
         co2 = record { least = omega arith; most = omega (arith, m.co2); steps = omega arith };
         heat = record { least = omega arith; most = omega (arith, m.heat); steps = omega arith };
         nox = record { least = omega arith; most = nox_most; steps = omega arith };
-        nox_tons_lem = record { least = omega arith; most = omega (arith, m.nox_tons_lem); steps = omega arith };
+        nox_tons = record { least = omega arith; most = omega (arith, m.nox_tons); steps = omega arith };
       }

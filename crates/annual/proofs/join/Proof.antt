@@ -98,7 +98,7 @@ add-t16 : tie.Need-overflow-add-t16
 add-t16 c = omega (arith, (sums_known (heat-next c)).heat)
 
 add-t17 : tie.Need-overflow-add-t17
-add-t17 c = omega (arith, (sums_known (nox-next c)).nox_tons_lem)
+add-t17 c = omega (arith, (sums_known (nox-next c)).nox_tons)
 
 returns-3 : tie.Need-returns-3
 returns-3 c =

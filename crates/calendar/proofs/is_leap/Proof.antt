@@ -6,15 +6,15 @@ use Rattle.calendar.specs.Calendar.{leap_year}
 use Rattle.calendar.proofs.is_leap.Statement.{statement}
 use Rattle.calendar.proofs.is_leap.Tie as tie
 
-returns : tie.Need-returns
+returns : tie.Need-returns-then-year-ne0
 unfolding leap_year
 returns c = simp (ne_eqb (c.before.args.year % 4) 0 (λ e. omega arith), ne_eqb (c.before.args.year % 400) 0 (λ e. omega arith))
 
-returns-2 : tie.Need-returns-2
+returns-2 : tie.Need-returns-then-year-ne0-2
 unfolding leap_year
 returns-2 c = simp (eq-eqb (c.before.before.args.year % 4) 0 (omega arith), ne_eqb (c.before.before.args.year % 100) 0 (λ e. omega arith))
 
-returns-3 : tie.Need-returns-3
+returns-3 : tie.Need-returns
 unfolding leap_year
 returns-3 c = simp (eq-eqb (c.before.before.args.year % 4) 0 (omega arith), eq-eqb (c.before.before.args.year % 100) 0 (omega arith))
 

@@ -16,92 +16,90 @@ no_digit d b e h k = go (dec_lt b 48)
     go (yes low) = below 48 57 b low
     go (no high) = above 48 57 b (omega arith) (omega arith)
 
-abbrev invariant-loop : tie.invariant-loop
+abbrev invariant-loop : tie.invariant-loop-i
 invariant-loop before bytes value₀ i₀ value i =
     (i ≤ length bytes) × (((value + 1) * 10 ^ (length bytes - i) ≤ 10 ^ 18) × (digits_from value (drop i bytes) ≡ digits_from before bytes))
 
-abbrev decreases-loop : tie.decreases-loop
+abbrev decreases-loop : tie.decreases-loop-i
 decreases-loop before bytes value₀ i₀ value i = length bytes - i
 
 -- the places of the code, each from the next one below it
-abbrev passed : tie.After-shared-slice-known2 invariant-loop decreases-loop → tie.At-loop invariant-loop decreases-loop
+abbrev passed : tie.After-shared_slice_known-in-loop-i-1 invariant-loop decreases-loop → tie.At-loop-i invariant-loop decreases-loop
 passed c = c.before.before
-
-abbrev read : tie.Else1 invariant-loop decreases-loop → tie.After-wrapping-sub-u8 invariant-loop decreases-loop
+abbrev read : tie.Else-digit-gt9 invariant-loop decreases-loop → tie.After-wrapping_sub_u8-digit invariant-loop decreases-loop
 read c = c.before
-
-abbrev digit : tie.Else1 invariant-loop decreases-loop → tie.At-loop invariant-loop decreases-loop
+abbrev digit : tie.Else-digit-gt9 invariant-loop decreases-loop → tie.At-loop-i invariant-loop decreases-loop
 digit c = passed (read c).before
 
-abbrev bytes : tie.At-loop invariant-loop decreases-loop → List ℕ
+abbrev bytes : tie.At-loop-i invariant-loop decreases-loop → List ℕ
 bytes c = c.before.before.args.bytes.now
 
 -- the byte that is looked at, and how many come behind it
-abbrev byte : tie.At-loop invariant-loop decreases-loop → ℕ
-byte c = get_or (bytes c) c.loop.i 0
+abbrev byte : tie.At-loop-i invariant-loop decreases-loop → ℕ
+byte c = get_or (bytes c) c.loop-i.i 0
 
-abbrev left : tie.At-loop invariant-loop decreases-loop → ℕ
-left c = length (bytes c) - (c.loop.i + 1)
+abbrev left : tie.At-loop-i invariant-loop decreases-loop → ℕ
+left c = length (bytes c) - (c.loop-i.i + 1)
 
 -- there is room for the digit that was read
-room : (c : tie.Else1 invariant-loop decreases-loop) → ((digit c).loop.value + 1) * 10 ^ suc (left (digit c)) ≤ 10 ^ 18
+room : (c : tie.Else-digit-gt9 invariant-loop decreases-loop) → ((digit c).loop-i.value + 1) * 10 ^ suc (left (digit c)) ≤ 10 ^ 18
 room c =
     let l = digit c in
-    let e : suc (left l) ≡ length (bytes l) - l.loop.i = omega arith in
-    rw e l.loop.inv.1.0
+    let e : suc (left l) ≡ length (bytes l) - l.loop-i.i = omega arith in
+    rw e l.loop-i.invariant.1.0
 
-ten : (c : tie.Else1 invariant-loop decreases-loop) → ((digit c).loop.value + 1) * 10 ≤ 10 ^ 18
-ten c = room_ten (digit c).loop.value (left (digit c)) (10 ^ 18) (room c)
+ten : (c : tie.Else-digit-gt9 invariant-loop decreases-loop) → ((digit c).loop-i.value + 1) * 10 ≤ 10 ^ 18
+ten c = room_ten (digit c).loop-i.value (left (digit c)) (10 ^ 18) (room c)
 
-loop-holds : tie.Need-loop-init invariant-loop decreases-loop
+loop-holds : tie.Need-loop-i-init invariant-loop decreases-loop
 loop-holds c = (omega arith, (rw sub-zero c.before.requires, refl))
 
-shared-slice-read-wrapping-sub-u8 : tie.Need-shared-slice-read-wrapping-sub-u8 invariant-loop decreases-loop
+shared-slice-read-wrapping-sub-u8 : tie.Need-bounds-bytes-i invariant-loop decreases-loop
 shared-slice-read-wrapping-sub-u8 c = omega arith
 
-wrapping-sub-u8-requires : tie.Need-wrapping-sub-u8-requires invariant-loop decreases-loop
+wrapping-sub-u8-requires : tie.Need-wrapping_sub_u8-digit-requires invariant-loop decreases-loop
 wrapping-sub-u8-requires c κs = search rules
 
-returns : tie.Need-returns invariant-loop decreases-loop
+returns : tie.Need-returns-then-digit-gt9 invariant-loop decreases-loop
 returns c =
     let w = c.before in
     let l = passed w.before in
-    let none = no_digit _ (byte l) w.wrapping-sub-u8.ensures (omega arith) c.if1.true in
-    sym (sym l.loop.inv.1.1 ∙ digits_stop (bytes l) l.loop.i (omega arith) l.loop.value none)
+    let none = no_digit _ (byte l) w.wrapping_sub_u8-digit.ensures (omega arith) c.if-digit-gt9.true in
+    sym (sym l.loop-i.invariant.1.1 ∙ digits_stop (bytes l) l.loop-i.i (omega arith) l.loop-i.value none)
 
-mul-value : tie.Need-overflow-mul-value invariant-loop decreases-loop
+mul-value : tie.Need-overflow_mul-value invariant-loop decreases-loop
 mul-value c = omega (arith, ten c)
 
-cast-value : tie.Need-overflow-cast-value invariant-loop decreases-loop
+cast-value : tie.Need-overflow_cast-value invariant-loop decreases-loop
 cast-value c = omega arith
 
-add-value : tie.Need-overflow-add-value invariant-loop decreases-loop
+add-value : tie.Need-overflow_add-value invariant-loop decreases-loop
 add-value c = omega (arith, ten c)
 
-add-i : tie.Need-overflow-add-i invariant-loop decreases-loop
+add-i : tie.Need-overflow_add-i invariant-loop decreases-loop
 add-i c = omega arith
 
-loop-less : tie.Need-loop-smaller invariant-loop decreases-loop
+loop-less : tie.Need-loop-i-smaller invariant-loop decreases-loop
 loop-less c = omega arith
 
-loop-again : tie.Need-loop-preserved invariant-loop decreases-loop
+loop-again : tie.Need-loop-i-preserved invariant-loop decreases-loop
 loop-again c =
     let l = digit c in
-    let v = l.loop.value in
-    let e : (read c).wrapping-sub-u8.result ≡ byte l - 48 = omega arith in
+    let v = l.loop-i.value in
+    let e : (read c).wrapping_sub_u8-digit.result ≡ byte l - 48 = omega arith in
     let d = leb_both 48 57 (byte l) (omega arith) (omega arith) in (
       omega arith,
       (
-        room_one v (left l) (10 ^ 18) (room c) (read c).wrapping-sub-u8.result (omega arith),
-        ap (λ (n : ℕ). digits_from (v * 10 + n) (drop (l.loop.i + 1) (bytes l))) e
-            ∙ digits_one (bytes l) l.loop.i (omega arith) v d ∙ l.loop.inv.1.1,
+        room_one v (left l) (10 ^ 18) (room c) (read c).wrapping_sub_u8-digit.result (omega arith),
+        ap (λ (n : ℕ). digits_from (v * 10 + n) (drop (l.loop-i.i + 1) (bytes l))) e
+            ∙ digits_one (bytes l) l.loop-i.i (omega arith) v d ∙ l.loop-i.invariant.1.1,
       ),
     )
 
-returns-2 : tie.Need-returns-2 invariant-loop decreases-loop
+returns-2 : tie.Need-returns invariant-loop decreases-loop
 returns-2 c =
     let l = c.before in
-    sym (sym l.loop.invariant.1.1 ∙ digits_end (bytes l) l.loop.i (omega arith) l.loop.value)
+    sym (sym l.loop-i.invariant.1.1 ∙ digits_end (bytes l) l.loop-i.i (omega arith) l.loop-i.value)
 
 pub digits_behind_spec : {M : Type 1} → statement M
 digits_behind_spec =

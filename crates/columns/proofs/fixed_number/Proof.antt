@@ -8,110 +8,105 @@ use Rattle.columns.proofs.fixed_number.Statement.{statement}
 use Rattle.columns.proofs.fixed_number.Tie as tie
 
 -- the places of the code, each from the next one below it
-abbrev start : tie.After-whole-number → tie.Start
-start c = c.before.before.before
-
-abbrev told : tie.After-whole → tie.After-whole-number
-told c = c.before.before
-
-abbrev numbered : tie.After-shared-slice-known2 → tie.After-whole
-numbered c = c.before.before
-
-abbrev pointed : tie.After-digits-behind-arg → tie.After-shared-slice-known2
+abbrev start : tie.After-whole_number-whole → tie.Start
+start c = c.before.before
+abbrev told : tie.In-Number → tie.After-whole_number-whole
+told c = c.before
+abbrev numbered : tie.After-shared_slice_known-in-Number-1 → tie.In-Number
+numbered c = c.before
+abbrev pointed : tie.After-digits_behind-arg-1 → tie.After-shared_slice_known-in-Number-1
 pointed c = c.before.before
-
-abbrev blank : tie.After-enum-told2 → tie.After-whole-number
-blank c = c.before.before
-
-abbrev bytes : tie.After-whole-number → List ℕ
+abbrev blank : tie.In-Blank → tie.After-whole_number-whole
+blank c = c.before
+abbrev bytes : tie.After-whole_number-whole → List ℕ
 bytes c = (start c).args.bytes.now
 
-abbrev decimals : tie.After-whole-number → ℕ
+abbrev decimals : tie.After-whole_number-whole → ℕ
 decimals c = (start c).args.decimals
 
 -- what stands in front of the point
-whole : (c : tie.After-whole-number) (f : Field) → c.whole_number_lem.result ≡ f → whole_of (take (point_in (bytes c) (decimals c)) (bytes c)) ≡ f
-whole c f e = sym c.whole_number_lem.ensures ∙ e
+whole : (c : tie.After-whole_number-whole) (f : Field) → c.whole_number-whole.result ≡ f → whole_of (take (point_in (bytes c) (decimals c)) (bytes c)) ≡ f
+whole c f e = sym c.whole_number-whole.ensures ∙ e
 
-number : (c : tie.After-whole) → let k = told c in whole_of (take (point_in (bytes k) (decimals k)) (bytes k)) ≡ Number c.whole.given.0.0
-number c = whole (told c) _ c.whole.given.1
+number : (c : tie.In-Number) → let k = told c in whole_of (take (point_in (bytes k) (decimals k)) (bytes k)) ≡ Number c.in-Number.before
+number c = whole (told c) _ c.in-Number.is
 
 -- blanks there, and what stands behind them
-blanks : (c : tie.After-all-blank) (b : Bool) → c.all-blank.result ≡ b →
+blanks : (c : tie.After-all_blank) (b : Bool) → c.all_blank.result ≡ b →
     let k = blank c.before.before in fixed_of (decimals k) (bytes k) ≡ elim b [ true ↦ Blank | false ↦ Malformed ]
 blanks c b e =
     let t = c.before.before in
-    fixed_blanks (bytes (blank t)) (decimals (blank t)) (omega arith) b (whole (blank t) _ t.enum-told2.given.1) (sym c.all-blank.ensures ∙ e)
+    fixed_blanks (bytes (blank t)) (decimals (blank t)) (omega arith) b (whole (blank t) _ t.in-Blank.is) (sym c.all_blank.ensures ∙ e)
 
-sub-point : tie.Need-overflow-sub-point
+sub-point : tie.Need-overflow_sub-point
 sub-point c = search rules
 
-sub-point-2 : tie.Need-overflow-sub-point-2
+sub-point-2 : tie.Need-overflow_sub-point-2
 sub-point-2 c = search rules
 
-slice-aggregate-whole-number : tie.Need-slice-aggregate-whole-number
+slice-aggregate-whole-number : tie.Need-slice_bounds-whole_number-end
 slice-aggregate-whole-number c = sym (length-take-le _ _ (omega arith))
 
-whole-number-requires : tie.Need-whole-number-requires
+whole-number-requires : tie.Need-whole_number-whole-requires
 whole-number-requires c κs = rw length-take (omega arith)
 
-enum-known-whole : tie.Need-enum-known-whole
+enum-known-whole : tie.Need-enum_known-whole
 enum-known-whole c = search rules
 
-shared-slice-read-if1 : tie.Need-shared-slice-read-if1
+shared-slice-read-if1 : tie.Need-bounds-bytes-point
 shared-slice-read-if1 c = search rules
 
-returns : tie.Need-returns
+returns : tie.Need-returns-then-bytes-point-ne46
 returns c = sym (fixed_pointless _ _ (omega arith) _ (number (numbered c.before)) (λ e. omega arith))
 
-add-digits-behind : tie.Need-overflow-add-digits-behind
+add-digits-behind : tie.Need-overflow_add-point
 add-digits-behind c = search rules
 
-sub-digits-behind : tie.Need-overflow-sub-digits-behind
+sub-digits-behind : tie.Need-slice_bounds-digits_behind-count
 sub-digits-behind c = search rules
 
-part-digits-behind-start : tie.Need-slice-bounds-digits-behind-start
+part-digits-behind-start : tie.Need-slice_bounds-digits_behind-start
 part-digits-behind-start c = search rules
 
-part-digits-behind-end : tie.Need-slice-bounds-digits-behind-end
+part-digits-behind-end : tie.Need-slice_bounds-digits_behind-end
 part-digits-behind-end c = search rules
 
-digits-behind-requires : tie.Need-digits-behind-requires
+digits-behind-requires : tie.Need-digits_behind-requires
 digits-behind-requires c κs =
     let n = numbered (pointed c) in
     fixed_room (bytes (told n)) (decimals (told n)) (omega arith) _ (omega arith) (number n)
 
-enum_told : tie.Need-enum-told
+enum_told : tie.Need-enum_told-1
 enum_told c = search rules
 
-enum-told-2 : tie.Need-enum-told-2
+enum-told-2 : tie.Need-enum_told-in-Blank
 enum-told-2 c = search rules
 
-sub-all-blank : tie.Need-overflow-sub-all-blank
+sub-all-blank : tie.Need-slice_bounds-all_blank-count
 sub-all-blank c = search rules
 
-part-all-blank-start : tie.Need-slice-bounds-all-blank-start
+part-all-blank-start : tie.Need-slice_bounds-all_blank-start
 part-all-blank-start c = search rules
 
-part-all-blank-end : tie.Need-slice-bounds-all-blank-end
+part-all-blank-end : tie.Need-slice_bounds-all_blank-end
 part-all-blank-end c = search rules
 
-all-blank-requires : tie.Need-all-blank-requires
+all-blank-requires : tie.Need-all_blank-requires
 all-blank-requires c κs = search rules
 
-returns-2 : tie.Need-returns-2
-returns-2 c = sym (blanks c.before true c.if2.true)
+returns-2 : tie.Need-returns-then-all_blank
+returns-2 c = sym (blanks c.before true c.if-all_blank.true)
 
-returns-3 : tie.Need-returns-3
+returns-3 : tie.Need-returns-else-bytes-point-ne46
 returns-3 c =
     let n = numbered (pointed c.before) in
-    c.digits_behind_lem.ensures ∙ sym (fixed_number (bytes (told n)) (decimals (told n)) (omega arith) _ (number n) (omega arith))
+    c.digits_behind.ensures ∙ sym (fixed_number (bytes (told n)) (decimals (told n)) (omega arith) _ (number n) (omega arith))
 
-returns-4 : tie.Need-returns-4
-returns-4 c = sym (fixed_malformed _ _ (omega arith) (whole c.before.before _ c.enum_told.given.1))
+returns-4 : tie.Need-returns-in-Malformed
+returns-4 c = sym (fixed_malformed _ _ (omega arith) (whole c.before _ c.in-Malformed.is))
 
-returns-5 : tie.Need-returns-5
-returns-5 c = sym (blanks c.before false c.if2.false)
+returns-5 : tie.Need-returns-else-all_blank
+returns-5 c = sym (blanks c.before false c.if-all_blank.false)
 
 pub fixed_number_spec : {M : Type 1} → statement M
 fixed_number_spec =

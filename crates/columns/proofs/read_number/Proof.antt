@@ -8,42 +8,41 @@ use Rattle.columns.proofs.Reading.{part_columns}
 use Rattle.columns.proofs.read_number.Statement.{statement}
 use Rattle.columns.proofs.read_number.Tie as tie
 
-abbrev start : tie.After-field → tie.Start
+abbrev start : tie.After-field-1 → tie.Start
 start c = c.before.before
-
-sub-from : tie.Need-overflow-sub-from
+sub-from : tie.Need-overflow_sub-from
 sub-from c = search rules
 
-add-field : tie.Need-overflow-add-field
+add-field : tie.Need-overflow_add-field
 add-field c = search rules
 
-sub-field : tie.Need-overflow-sub-field
+sub-field : tie.Need-slice_bounds-field-count
 sub-field c = search rules
 
-part-field-start : tie.Need-slice-bounds-field-start
+part-field-start : tie.Need-slice_bounds-field-start
 part-field-start c = search rules
 
-part-field-end : tie.Need-slice-bounds-field-end
+part-field-end : tie.Need-slice_bounds-field-end
 part-field-end c = search rules
 
-whole-number-requires : tie.Need-whole-number-requires
+whole-number-requires : tie.Need-whole_number-requires
 whole-number-requires c κs = search rules
 
-returns : tie.Need-returns
+returns : tie.Need-returns-then-decimals-eq0
 returns c =
     let x = (start c.before.before).args in
     let field = columns x.start x.width x.line.now in
-    let e : c.whole_number_lem.result ≡ field_of x.decimals field =
-    c.whole_number_lem.ensures ∙ ap whole_of (part_columns x.start x.width x.line.now) ∙ sym (field_whole x.decimals field c.before.if1.true) in
+    let e : c.whole_number.result ≡ field_of x.decimals field =
+    c.whole_number.ensures ∙ ap whole_of (part_columns x.start x.width x.line.now) ∙ sym (field_whole x.decimals field c.before.if-decimals-eq0.true) in
     (e, rw e (columns_number_bound x.start x.width x.line.now (omega arith) x.decimals))
 
-fixed-number-requires : tie.Need-fixed-number-requires
+fixed-number-requires : tie.Need-fixed_number-requires
 fixed-number-requires c κs =
     let x = (start c.before).args in
     let n : length (columns x.start x.width x.line.now) ≡ x.width = columns_length x.start x.width x.line.now (omega arith) in
     rw (part_columns, n) (omega arith)
 
-returns-2 : tie.Need-returns-2
+returns-2 : tie.Need-returns
 returns-2 c =
     let x = (start c.before.before).args in
     let field = columns x.start x.width x.line.now in

@@ -9,46 +9,45 @@ use Rattle.columns.proofs.Lows.{low_none}
 use Rattle.columns.proofs.worth.Statement.{statement}
 use Rattle.columns.proofs.worth.Tie as tie
 
-abbrev start : tie.After-field → tie.Start
+abbrev start : tie.After-field-1 → tie.Start
 start c = c.before.before
-
-sub-from : tie.Need-overflow-sub-from
+sub-from : tie.Need-overflow_sub-from
 sub-from c = search rules
 
-add-field : tie.Need-overflow-add-field
+add-field : tie.Need-overflow_add-field
 add-field c = search rules
 
-sub-field : tie.Need-overflow-sub-field
+sub-field : tie.Need-slice_bounds-field-count
 sub-field c = search rules
 
-part-field-start : tie.Need-slice-bounds-field-start
+part-field-start : tie.Need-slice_bounds-field-start
 part-field-start c = search rules
 
-part-field-end : tie.Need-slice-bounds-field-end
+part-field-end : tie.Need-slice_bounds-field-end
 part-field-end c = search rules
 
-low-digits-requires : tie.Need-low-digits-requires
+low-digits-requires : tie.Need-low_digits-requires
 low-digits-requires c κs =
     let x = (start c.before).args in
     let n : length (columns x.start x.width x.line.now) ≡ x.width = columns_length x.start x.width x.line.now (omega arith) in
     low_none _ (rw (part_columns, n) (omega arith))
 
-returns : tie.Need-returns
+returns : tie.Need-returns-then-decimals-eq0
 returns c =
     let x = (start c.before.before).args in
-    c.low_digits_lem.ensures.0 ∙ ap (low_from 0) (part_columns x.start x.width x.line.now)
-    ∙ sym (worth_whole x.decimals (columns x.start x.width x.line.now) c.before.if1.true)
+    c.low_digits.ensures.0 ∙ ap (low_from 0) (part_columns x.start x.width x.line.now)
+    ∙ sym (worth_whole x.decimals (columns x.start x.width x.line.now) c.before.if-decimals-eq0.true)
 
-fixed-worth-requires : tie.Need-fixed-worth-requires
+fixed-worth-requires : tie.Need-fixed_worth-requires
 fixed-worth-requires c κs =
     let x = (start c.before).args in
     let n : length (columns x.start x.width x.line.now) ≡ x.width = columns_length x.start x.width x.line.now (omega arith) in
     rw (part_columns, n) (omega arith)
 
-returns-2 : tie.Need-returns-2
+returns-2 : tie.Need-returns
 returns-2 c =
     let x = (start c.before.before).args in
-    c.fixed_worth_lem.ensures ∙ ap (fixed_worth x.decimals) (part_columns x.start x.width x.line.now)
+    c.fixed_worth.ensures ∙ ap (fixed_worth x.decimals) (part_columns x.start x.width x.line.now)
     ∙ sym (worth_fixed x.decimals (columns x.start x.width x.line.now) (omega arith))
 
 pub worth_spec : {M : Type 1} → statement M

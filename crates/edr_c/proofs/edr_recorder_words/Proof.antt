@@ -53,7 +53,7 @@ recorded c =
     let nox = co2.before in
     let so2 = nox.before in
     c.hour-words.ensures.0
-    ∙ ap recorded_of (same_hour so2.reading_in_lem.ensures nox.reading-in2.ensures co2.reading-in3.ensures flow.reading-in4.ensures)
+    ∙ ap recorded_of (same_hour so2.reading_in.ensures nox.reading-in2.ensures co2.reading-in3.ensures flow.reading-in4.ensures)
 
 returns : tie.Need-returns
 returns c = let a = (start c.before).args in wrong_lengths_lem a.states.now a.readings.now a.answer.now c.if1.true

@@ -6,16 +6,16 @@ use Rattle.filling.proofs.Fields.{blank_byte, digit_byte}
 use Rattle.filling.proofs.digit_or_blank.Statement.{statement}
 use Rattle.filling.proofs.digit_or_blank.Tie as tie
 
-returns : tie.Need-returns
-returns c = sym (blank_byte c.before.args.value c.if1.true)
+returns : tie.Need-returns-then-value-eq0
+returns c = sym (blank_byte c.before.args.value c.if-value-eq0.true)
 
-cast-result : tie.Need-overflow-cast-result
+cast-result : tie.Need-overflow_cast-result
 cast-result c = search rules
 
-add-result : tie.Need-overflow-add-result
+add-result : tie.Need-overflow_add-result
 add-result c = search rules
 
-returns-2 : tie.Need-returns-2
+returns-2 : tie.Need-returns
 returns-2 c = sym (digit_byte c.before.args.value (omega arith))
 
 pub digit_or_blank_spec : {M : Type 1} → statement M

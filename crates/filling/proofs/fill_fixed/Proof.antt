@@ -19,43 +19,41 @@ joined : (l : List ℕ) (d v : ℕ) {ws ds : List ℕ} → d + 2 ≤ length l �
 joined l d v h w e = rw (w, e) (fixed_filled l d v h)
 
 -- the places of the code, each from the next one below it
-abbrev start : tie.After-fill-digits → tie.Start
+abbrev start : tie.After-fill_digits-whole → tie.Start
 start c = c.before.before.before
-
-abbrev digits : tie.After-fill-whole → tie.After-fill-digits
+abbrev digits : tie.After-fill_whole → tie.After-fill_digits-whole
 digits c = c.before.before.before.before
-
-sub-point : tie.Need-overflow-sub-point
+sub-point : tie.Need-overflow_sub-point
 sub-point c = search rules
 
-sub-point-2 : tie.Need-overflow-sub-point-2
+sub-point-2 : tie.Need-overflow_sub-point-2
 sub-point-2 c = search rules
 
-add-fill-digits : tie.Need-overflow-add-fill-digits
+add-fill-digits : tie.Need-overflow_add-point
 add-fill-digits c = search rules
 
-sub-fill-digits : tie.Need-overflow-sub-fill-digits
+sub-fill-digits : tie.Need-slice_bounds-fill_digits-count
 sub-fill-digits c = search rules
 
-part-fill-digits-start : tie.Need-slice-bounds-fill-digits-start
+part-fill-digits-start : tie.Need-slice_bounds-fill_digits-start
 part-fill-digits-start c = search rules
 
-part-fill-digits-end : tie.Need-slice-bounds-fill-digits-end
+part-fill-digits-end : tie.Need-slice_bounds-fill_digits-end
 part-fill-digits-end c = search rules
 
-fill-digits-requires : tie.Need-fill-digits-requires
+fill-digits-requires : tie.Need-fill_digits-whole-requires
 fill-digits-requires c κs = search rules
 
-slice-write-field : tie.Need-slice-write-field
+slice-write-field : tie.Need-bounds-field-point
 slice-write-field c = search rules
 
-slice-relend-prefix-fill-whole : tie.Need-slice-relend-prefix-fill-whole
+slice-relend-prefix-fill-whole : tie.Need-slice_bounds-fill_whole-end
 slice-relend-prefix-fill-whole c = rw length-set (omega arith)
 
-slice-aggregate-fill-whole : tie.Need-slice-aggregate-fill-whole
+slice-aggregate-fill-whole : tie.Need-slice_bounds-fill_whole-end-2
 slice-aggregate-fill-whole c = simp (length-take, length-set) (omega arith)
 
-fill-whole-requires : tie.Need-fill-whole-requires
+fill-whole-requires : tie.Need-fill_whole-requires
 fill-whole-requires c κs = simp (length-take, length-set) (omega arith)
 
 returns : tie.Need-returns
@@ -64,8 +62,8 @@ returns c =
     let x = (start (digits k)).args in
     let l = x.field.now in
     let d = x.decimals in
-    let decimals = (digits k).fill-digits in
-    let whole = k.fill-whole in
+    let decimals = (digits k).fill_digits-whole in
+    let whole = k.fill_whole in
     let n : length (take (length l - (point_in l d + 1)) (drop (point_in l d + 1) l)) ≡ d = decimals_length l d x.value (omega arith) in
     let e : decimals.last.0 ≡ digits_of d x.value = decimals.ensures.0 ∙ ap (λ (k : ℕ). digits_of k x.value) n in
     let r : decimals.result ≡ x.value / 10 ^ d = decimals.ensures.1 ∙ ap (λ (k : ℕ). x.value / 10 ^ k) n in
@@ -75,7 +73,7 @@ returns c =
     (simp (length-take, length-set, m, p) at whole.ensures) ∙ ap (whole_written (point_in l d)) r in
     joined l d x.value (omega arith) w e
 
-same_length : tie.Need-same-length
+same_length : tie.Need-shape_of-field
 same_length c =
     let x = (start (digits c.before.before)).args in
     ap length (returns c) ∙ fixed_length (length x.field.now) x.decimals x.value (omega arith)

@@ -10,28 +10,27 @@ use Rattle.filling.proofs.Fields.{whole_filled}
 use Rattle.filling.proofs.fill_whole.Statement.{statement}
 use Rattle.filling.proofs.fill_whole.Tie as tie
 
-abbrev start : tie.After-fill-leading → tie.Start
+abbrev start : tie.After-fill_leading → tie.Start
 start c = c.before.before.before
-
-sub-last : tie.Need-overflow-sub-last
+sub-last : tie.Need-overflow_sub-last
 sub-last c = search rules
 
-cast-field : tie.Need-overflow-cast-field
+cast-field : tie.Need-overflow_cast-field
 cast-field c = search rules
 
-add-field : tie.Need-overflow-add-field
+add-field : tie.Need-overflow_add-field
 add-field c = search rules
 
-slice-write-field : tie.Need-slice-write-field
+slice-write-field : tie.Need-bounds-field-last
 slice-write-field c = search rules
 
-slice-relend-prefix-fill-leading : tie.Need-slice-relend-prefix-fill-leading
+slice-relend-prefix-fill-leading : tie.Need-slice_bounds-fill_leading-end
 slice-relend-prefix-fill-leading c = simp length-set (omega arith)
 
-slice-aggregate-fill-leading : tie.Need-slice-aggregate-fill-leading
+slice-aggregate-fill-leading : tie.Need-slice_bounds-fill_leading-end-2
 slice-aggregate-fill-leading c = simp (length-take, length-set) (omega arith)
 
-fill-leading-requires : tie.Need-fill-leading-requires
+fill-leading-requires : tie.Need-fill_leading-requires
 fill-leading-requires c κs = search rules
 
 returns : tie.Need-returns
@@ -40,10 +39,10 @@ returns c =
     let x = (start k).args in
     let field = x.field.now in
     let n : min (length field - 1) (length field) ≡ length field - 1 = omega arith in
-    let e : k.fill-leading.new.0 ≡ leading (length field - 1) (x.value / 10) = simp (length-take, length-set, n) at k.fill-leading.ensures in
+    let e : k.fill_leading.new.0 ≡ leading (length field - 1) (x.value / 10) = simp (length-take, length-set, n) at k.fill_leading.ensures in
     rw e (whole_filled field x.value (omega arith))
 
-same_length : tie.Need-same-length
+same_length : tie.Need-shape_of-field
 same_length c =
     let x = (start c.before.before).args in
     ap length (returns c) ∙ whole_length (length x.field.now) x.value

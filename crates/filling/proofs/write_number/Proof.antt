@@ -11,78 +11,75 @@ use Rattle.filling.proofs.write_number.Statement.{statement}
 use Rattle.filling.proofs.write_number.Tie as tie
 
 -- the places of the code, each from the next one below it
-abbrev start : tie.After-slice-known → tie.Start
+abbrev start : tie.After-slice_known-1 → tie.Start
 start c = c.before
-
-abbrev whole : tie.After-fill-whole → tie.Then1
+abbrev whole : tie.After-fill_whole → tie.Then-decimals-eq0
 whole c = c.before.before
-
-abbrev fixed : tie.After-fill-fixed → tie.Else1
+abbrev fixed : tie.After-fill_fixed → tie.Else-decimals-eq0
 fixed c = c.before.before
-
-sub-from : tie.Need-overflow-sub-from
+sub-from : tie.Need-overflow_sub-from
 sub-from c = search rules
 
-add-fill-whole : tie.Need-overflow-add-fill-whole
+add-fill-whole : tie.Need-overflow_add-from
 add-fill-whole c = search rules
 
-sub-fill-whole : tie.Need-overflow-sub-fill-whole
+sub-fill-whole : tie.Need-slice_bounds-fill_whole-count
 sub-fill-whole c = search rules
 
-part-fill-whole-start : tie.Need-slice-bounds-fill-whole-start
+part-fill-whole-start : tie.Need-slice_bounds-fill_whole-start
 part-fill-whole-start c = search rules
 
-part-fill-whole-end : tie.Need-slice-bounds-fill-whole-end
+part-fill-whole-end : tie.Need-slice_bounds-fill_whole-end
 part-fill-whole-end c = search rules
 
-fill-whole-requires : tie.Need-fill-whole-requires
+fill-whole-requires : tie.Need-fill_whole-requires
 fill-whole-requires c κs =
     let s = start c.before.before in
     let x = s.args in
     rw (part_length x.start x.width x.line.now (omega arith)) (fewest_digit x.decimals x.width s.pre.1)
 
-same_length : tie.Need-same-length
+same_length : tie.Need-shape_of-line-then-decimals-eq0
 same_length c = search rules
 
-returns : tie.Need-returns
+returns : tie.Need-returns-then-decimals-eq0
 returns c =
     let k = c.before.before in
     let x = (start (whole k).before).args in
-    let e : k.fill-whole.new.0 ≡ whole_written x.width x.value =
-    k.fill-whole.ensures ∙ ap (λ (n : ℕ). whole_written n x.value) (part_length x.start x.width x.line.now (omega arith)) in
-    rw (e, written_whole x.width x.decimals x.value (whole k).if1.true)
+    let e : k.fill_whole.new.0 ≡ whole_written x.width x.value =
+    k.fill_whole.ensures ∙ ap (λ (n : ℕ). whole_written n x.value) (part_length x.start x.width x.line.now (omega arith)) in
+    rw (e, written_whole x.width x.decimals x.value (whole k).if-decimals-eq0.true)
     (put_part x.start x.width x.line.now (whole_written x.width x.value) (whole_length x.width x.value))
 
-add-fill-fixed : tie.Need-overflow-add-fill-fixed
+add-fill-fixed : tie.Need-overflow_add-from-2
 add-fill-fixed c = search rules
 
-sub-fill-fixed : tie.Need-overflow-sub-fill-fixed
+sub-fill-fixed : tie.Need-slice_bounds-fill_fixed-count
 sub-fill-fixed c = search rules
 
-part-fill-fixed-start : tie.Need-slice-bounds-fill-fixed-start
+part-fill-fixed-start : tie.Need-slice_bounds-fill_fixed-start
 part-fill-fixed-start c = search rules
 
-part-fill-fixed-end : tie.Need-slice-bounds-fill-fixed-end
+part-fill-fixed-end : tie.Need-slice_bounds-fill_fixed-end
 part-fill-fixed-end c = search rules
 
-fill-fixed-requires : tie.Need-fill-fixed-requires
+fill-fixed-requires : tie.Need-fill_fixed-requires
 fill-fixed-requires c κs =
     let s = start c.before.before in
     let x = s.args in
     rw (part_length x.start x.width x.line.now (omega arith)) (fewest_decimals x.decimals x.width (omega arith) s.pre.1)
 
-same-length-2 : tie.Need-same-length-2
+same-length-2 : tie.Need-shape_of-line
 same-length-2 c = search rules
 
-returns-2 : tie.Need-returns-2
+returns-2 : tie.Need-returns
 returns-2 c =
     let k = c.before.before in
     let s = start (fixed k).before in
     let x = s.args in
     let w : x.decimals + 2 ≤ x.width = fewest_decimals x.decimals x.width (omega arith) s.pre.1 in
     let bytes = fixed_written x.width x.decimals x.value in
-    let e : k.fill-fixed.new.0 ≡ bytes =
-    k.fill-fixed.ensures ∙ ap (λ (n : ℕ). fixed_written n x.decimals x.value) (part_length x.start x.width x.line.now (omega arith)) in
+    let e : k.fill_fixed.new.0 ≡ bytes =
+    k.fill_fixed.ensures ∙ ap (λ (n : ℕ). fixed_written n x.decimals x.value) (part_length x.start x.width x.line.now (omega arith)) in
     rw (e, written_fixed x.width x.decimals x.value (omega arith))
     (put_part x.start x.width x.line.now bytes (fixed_length x.width x.decimals x.value (omega arith)))
 
