@@ -26,11 +26,11 @@ returns-4 : tie.Need-returns-in_default
 unfolding days_in_month
 returns-4 c =
     simp (
-      ne_eqb c.before.args.month 2 c.in_default.rest.0.1,
-      ne_eqb c.before.args.month 4 (λ e. c.in_default.rest.1 (inl e)),
-      ne_eqb c.before.args.month 6 (λ e. c.in_default.rest.1 (inr (inl e))),
-      ne_eqb c.before.args.month 9 (λ e. c.in_default.rest.1 (inr (inr (inl e)))),
-      ne_eqb c.before.args.month 11 (λ e. c.in_default.rest.1 (inr (inr (inr e)))),
+      ne_eqb c.before.args.month 2 c.in_default.in_default-own.rest.0.1,
+      ne_eqb c.before.args.month 4 (λ e. c.in_default.in_default-own.rest.1 (inl e)),
+      ne_eqb c.before.args.month 6 (λ e. c.in_default.in_default-own.rest.1 (inr (inl e))),
+      ne_eqb c.before.args.month 9 (λ e. c.in_default.in_default-own.rest.1 (inr (inr (inl e)))),
+      ne_eqb c.before.args.month 11 (λ e. c.in_default.in_default-own.rest.1 (inr (inr (inr e)))),
     )
 
 pub days_in_month_spec : {M : Type 1} → statement M

@@ -65,11 +65,11 @@ returns c =
     let decimals = (digits k).fill_digits-whole in
     let whole = k.fill_whole in
     let n : length (take (length l - (point_in l d + 1)) (drop (point_in l d + 1) l)) ≡ d = decimals_length l d x.value (omega arith) in
-    let e : decimals.last.0 ≡ digits_of d x.value = decimals.ensures.0 ∙ ap (λ (k : ℕ). digits_of k x.value) n in
+    let e : decimals.new.field ≡ digits_of d x.value = decimals.ensures.0 ∙ ap (λ (k : ℕ). digits_of k x.value) n in
     let r : decimals.result ≡ x.value / 10 ^ d = decimals.ensures.1 ∙ ap (λ (k : ℕ). x.value / 10 ^ k) n in
-    let m : length (put_mid (point_in l d + 1) (length l - (point_in l d + 1)) l decimals.last.0) ≡ length l = omega arith in
+    let m : length (put_mid (point_in l d + 1) (length l - (point_in l d + 1)) l decimals.new.field) ≡ length l = omega arith in
     let p : min (point_in l d) (length l) ≡ point_in l d = omega arith in
-    let w : whole.new.0 ≡ whole_written (point_in l d) (x.value / 10 ^ d) =
+    let w : whole.new.field ≡ whole_written (point_in l d) (x.value / 10 ^ d) =
     (simp (length-take, length-set, m, p) at whole.ensures) ∙ ap (whole_written (point_in l d)) r in
     joined l d x.value (omega arith) w e
 

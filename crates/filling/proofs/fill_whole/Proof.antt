@@ -39,7 +39,7 @@ returns c =
     let x = (start k).args in
     let field = x.field.now in
     let n : min (length field - 1) (length field) ≡ length field - 1 = omega arith in
-    let e : k.fill_leading.new.0 ≡ leading (length field - 1) (x.value / 10) = simp (length-take, length-set, n) at k.fill_leading.ensures in
+    let e : k.fill_leading.new.field ≡ leading (length field - 1) (x.value / 10) = simp (length-take, length-set, n) at k.fill_leading.ensures in
     rw e (whole_filled field x.value (omega arith))
 
 same_length : tie.Need-shape_of-field

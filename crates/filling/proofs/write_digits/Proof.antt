@@ -34,7 +34,7 @@ returns : tie.Need-returns
 returns c =
     let k = c.before.before in
     let x = k.before.before.before.args in
-    let e : k.fill_digits.new.0 ≡ digits_of x.width x.value =
+    let e : k.fill_digits.new.field ≡ digits_of x.width x.value =
     k.fill_digits.ensures.0 ∙ ap (λ (n : ℕ). digits_of n x.value) (part_length x.start x.width x.line.now (omega arith)) in
     rw e (put_part x.start x.width x.line.now (digits_of x.width x.value) (digits_length x.width x.value))
 

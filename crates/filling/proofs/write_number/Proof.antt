@@ -36,7 +36,7 @@ fill-whole-requires : tie.Need-fill_whole-requires
 fill-whole-requires c κs =
     let s = start c.before.before in
     let x = s.args in
-    rw (part_length x.start x.width x.line.now (omega arith)) (fewest_digit x.decimals x.width s.pre.1)
+    rw (part_length x.start x.width x.line.now (omega arith)) (fewest_digit x.decimals x.width s.requires.1)
 
 same_length : tie.Need-shape_of-line-then-decimals-eq0
 same_length c = search rules
@@ -45,7 +45,7 @@ returns : tie.Need-returns-then-decimals-eq0
 returns c =
     let k = c.before.before in
     let x = (start (whole k).before).args in
-    let e : k.fill_whole.new.0 ≡ whole_written x.width x.value =
+    let e : k.fill_whole.new.field ≡ whole_written x.width x.value =
     k.fill_whole.ensures ∙ ap (λ (n : ℕ). whole_written n x.value) (part_length x.start x.width x.line.now (omega arith)) in
     rw (e, written_whole x.width x.decimals x.value (whole k).if-decimals-eq0.true)
     (put_part x.start x.width x.line.now (whole_written x.width x.value) (whole_length x.width x.value))
@@ -66,7 +66,7 @@ fill-fixed-requires : tie.Need-fill_fixed-requires
 fill-fixed-requires c κs =
     let s = start c.before.before in
     let x = s.args in
-    rw (part_length x.start x.width x.line.now (omega arith)) (fewest_decimals x.decimals x.width (omega arith) s.pre.1)
+    rw (part_length x.start x.width x.line.now (omega arith)) (fewest_decimals x.decimals x.width (omega arith) s.requires.1)
 
 same-length-2 : tie.Need-shape_of-line
 same-length-2 c = search rules
@@ -76,9 +76,9 @@ returns-2 c =
     let k = c.before.before in
     let s = start (fixed k).before in
     let x = s.args in
-    let w : x.decimals + 2 ≤ x.width = fewest_decimals x.decimals x.width (omega arith) s.pre.1 in
+    let w : x.decimals + 2 ≤ x.width = fewest_decimals x.decimals x.width (omega arith) s.requires.1 in
     let bytes = fixed_written x.width x.decimals x.value in
-    let e : k.fill_fixed.new.0 ≡ bytes =
+    let e : k.fill_fixed.new.field ≡ bytes =
     k.fill_fixed.ensures ∙ ap (λ (n : ℕ). fixed_written n x.decimals x.value) (part_length x.start x.width x.line.now (omega arith)) in
     rw (e, written_fixed x.width x.decimals x.value (omega arith))
     (put_part x.start x.width x.line.now bytes (fixed_length x.width x.decimals x.value (omega arith)))
