@@ -9,7 +9,7 @@ use totals::Quarter;
 
 // A year after some of its quarters: the last of them (0 before the first), their operating hours, and SO2 tons, CO2 tons, heat input and
 // NOx tons in tenths.
-#[derive(Drop)]
+#[derive(Clone, Copy)]
 pub struct YearToDate {
     pub year: u64,
     pub quarter: u64,
@@ -21,7 +21,7 @@ pub struct YearToDate {
 }
 
 // The record with a quarter added, or the number of a refusal.
-#[derive(Drop)]
+#[derive(Clone, Copy)]
 pub enum Joined {
     Record(YearToDate),
     Refused(u64),

@@ -8,7 +8,7 @@ ghost use Rattle.calendar.specs.Calendar.{IsQuarter, leap_year, days_in_month, f
 pub const MOST_HOURS: u64 = 2208;
 
 // A date and hour of a year that is known beside it: month and day count from 1, the hour from 0.
-#[derive(Drop)]
+#[derive(Clone, Copy)]
 pub struct Date {
     pub month: u64,
     pub day: u64,
@@ -16,7 +16,7 @@ pub struct Date {
 }
 
 // Where a date lies in a quarter.
-#[derive(Drop)]
+#[derive(Clone, Copy)]
 pub enum QuarterHour {
     // In it, at this hour.
     At(u64),

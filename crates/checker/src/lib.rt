@@ -13,7 +13,7 @@ use reading::{Reading, Refusal};
 use totals::{Quarter, Totals};
 
 // An acceptance, with the operating hours and totals, or a refusal.
-#[derive(Drop)]
+#[derive(Clone, Copy)]
 pub enum Answer {
     Accepted(Quarter),
     Refused(Refusal),

@@ -9,7 +9,7 @@ ghost use Rattle.columns.specs.Worth.{low_from, fixed_worth, worth_of};
 ghost use Rattle.columns.specs.Picture.{FitsFrom, Fits};
 
 // What a field of columns holds.
-#[derive(Drop)]
+#[derive(Clone, Copy)]
 pub enum Field {
     Blank,
     Malformed,

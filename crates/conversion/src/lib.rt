@@ -9,7 +9,7 @@ ghost use Rattle.conversion.specs.ConversionPromise.{ConversionPromise};
 use layout::values;
 
 // The sheet has the present form, or it is as it was: the number of the refusal, 31 or 50.
-#[derive(Drop)]
+#[derive(Clone, Copy)]
 pub enum Converted {
     Done,
     Refused(u64),

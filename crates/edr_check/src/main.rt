@@ -11,14 +11,14 @@ use libc::{STDERR_FILENO, STDIN_FILENO, STDOUT_FILENO};
 
 // What the reads of standard input came to: so many bytes of report, and what the last read returned. That is the one that brought
 // nothing, or, behind a report that fills its buffer, the read of one byte more.
-#[derive(Drop)]
+#[derive(Clone, Copy)]
 struct Reads {
     size: usize,
     last: isize,
 }
 
 // What standard input held: a report of so many bytes, more than fits, or what a read refused.
-#[derive(Drop)]
+#[derive(Clone, Copy)]
 enum Input {
     Report(usize),
     TooLong,

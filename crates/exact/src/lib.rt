@@ -6,7 +6,7 @@ ghost use Rattle.exact.specs.Rounding.{low_end, high_end, nearest};
 ghost use Rattle.exact.specs.Behind.{meets};
 
 // The ends of a rounding span, in half units: the values from `from` up to but not including `below`.
-#[derive(Drop)]
+#[derive(Clone, Copy)]
 pub struct Ends {
     pub from: u64,
     pub below: u64,

@@ -1,7 +1,7 @@
 // One operating hour as it is recorded. Each number is a count of units.
 
 // Tenths of ppm (SO2, NOx) and of percent (CO2), thousands of scfh (flow), tenths of scf/mmBtu (fc, the F-factor Fc).
-#[derive(Drop)]
+#[derive(Clone, Copy)]
 pub struct Readings {
     pub so2: u64,
     pub nox: u64,
@@ -11,7 +11,7 @@ pub struct Readings {
 }
 
 // Tenths of mmBtu/hr (heat input rate), of lb/hr (SO2 mass rate) and of tons/hr (CO2 mass rate), thousandths of lb/mmBtu (NOx rate).
-#[derive(Drop)]
+#[derive(Clone, Copy)]
 pub struct Figures {
     pub heat: u64,
     pub so2: u64,
@@ -20,7 +20,7 @@ pub struct Figures {
 }
 
 // The operating time is in hundredths of an hour. In a gas hour no SO2 monitor runs: SO2 comes from the heat, and readings.so2 is 0.
-#[derive(Drop)]
+#[derive(Clone, Copy)]
 pub struct Hour {
     pub time: u64,
     pub gas: bool,
@@ -29,7 +29,7 @@ pub struct Hour {
 }
 
 // What is judged of an hour, in the order of judging.
-#[derive(Drop)]
+#[derive(Clone, Copy)]
 pub enum Quantity {
     Heat,
     So2,

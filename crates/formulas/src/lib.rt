@@ -11,14 +11,14 @@ ghost use Rattle.formulas.specs.Reduced.{formula_meets, ProductRoom, QuotientRoo
 use crate::hour::{Figures, Hour, Quantity, Readings};
 
 // How an equation joins its two readings: left × right, or left / right.
-#[derive(Drop)]
+#[derive(Clone, Copy)]
 pub enum Form {
     Product,
     Quotient,
 }
 
 // An equation in recorded units, those of its figure and of its readings: num × left × right / den, or num × left / (den × right).
-#[derive(Drop)]
+#[derive(Clone, Copy)]
 pub struct Formula {
     pub form: Form,
     pub num: u64,

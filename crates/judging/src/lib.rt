@@ -10,20 +10,20 @@ use layout::RecordType;
 use totals::Quarter;
 
 // The number of a refusal; where an hour's figure fails, that hour's rank from 1, else 0.
-#[derive(Drop)]
+#[derive(Clone, Copy)]
 pub struct Failure {
     pub number: u64,
     pub rank: usize,
 }
 
-#[derive(Drop)]
+#[derive(Clone, Copy)]
 pub enum Verdict {
     Accepted(Quarter),
     Refused(Failure),
 }
 
 // A figure of an hour as it is judged: its quantity, its refusal, and the type of the line on which it stands.
-#[derive(Drop)]
+#[derive(Clone, Copy)]
 pub struct FigureRow {
     pub quantity: Quantity,
     pub number: u64,

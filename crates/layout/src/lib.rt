@@ -66,7 +66,7 @@ pub const GAS_FROM: usize = GAS_START - 1;
 
 pub const GAS_TO: usize = GAS_FROM + GAS_WIDTH;
 
-#[derive(Drop)]
+#[derive(Clone, Copy)]
 pub enum RecordType {
     // 100
     Facility,
@@ -91,14 +91,14 @@ pub enum RecordType {
 }
 
 // How many lines a report has: its operating hours, and its 300 lines.
-#[derive(Drop)]
+#[derive(Clone, Copy)]
 pub struct Shape {
     pub hours: usize,
     pub operations: usize,
 }
 
 // How many lines of a type there are: one, one for each operating hour, or one for each hour that is listed.
-#[derive(Drop)]
+#[derive(Clone, Copy)]
 pub enum Run {
     Once,
     Hourly,
@@ -106,14 +106,14 @@ pub enum Run {
 }
 
 // The lines and the bytes in front of a type.
-#[derive(Drop)]
+#[derive(Clone, Copy)]
 pub struct Front {
     pub lines: usize,
     pub bytes: usize,
 }
 
 // What stands in front of a type: lines of their own, those of one operating hour, and that of one hour listed.
-#[derive(Drop)]
+#[derive(Clone, Copy)]
 struct Lead {
     once: Front,
     hourly: Front,
@@ -122,7 +122,7 @@ struct Lead {
 
 // A type's code, which is written, and its digits, which are compared; the length of its line without byte 10, where date and hour start (0 where it has
 // none), its run of lines, how many values it has, whether its lines may have GAS.
-#[derive(Drop)]
+#[derive(Clone, Copy)]
 pub struct Row {
     pub code: u64,
     pub digits: [u8; TYPE_WIDTH],

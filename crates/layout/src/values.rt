@@ -4,7 +4,7 @@ ghost use Rattle.layout.specs.Values.{in_range, whole_steps, within, Within, flo
 
 // A value's first column (from 1), width and decimals (0: a whole number); in units of its last decimal, the least and the most it may be
 // and the step of which it is a multiple.
-#[derive(Drop)]
+#[derive(Clone, Copy)]
 pub struct Value {
     pub start: usize,
     pub width: usize,

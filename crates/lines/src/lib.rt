@@ -19,21 +19,21 @@ use calendar::QuarterHour;
 use layout::{RecordType, Row, values};
 
 // The year and the quarter that a report is of.
-#[derive(Drop)]
+#[derive(Clone, Copy)]
 pub struct Period {
     pub year: u64,
     pub quarter: u64,
 }
 
 // What line 100 says, or the number of its fault.
-#[derive(Drop)]
+#[derive(Clone, Copy)]
 pub enum FacilityLine {
     Of(Period),
     Faulty(u64),
 }
 
 // The hour of the quarter that a line is for, or the number of its fault.
-#[derive(Drop)]
+#[derive(Clone, Copy)]
 pub enum HourLine {
     At(u64),
     Faulty(u64),

@@ -12,7 +12,7 @@ use columns::Field;
 use layout::{RecordType, values};
 
 // The hour of the quarter that a 300 line is for, or the number of its fault.
-#[derive(Drop)]
+#[derive(Clone, Copy)]
 pub enum OperationLine {
     Operating(u64),
     Idle(u64),

@@ -12,7 +12,7 @@ use libc::{STDERR_FILENO, STDOUT_FILENO};
 use writer::Written;
 
 // How many bytes a case takes, and the length of the last report written.
-#[derive(Drop)]
+#[derive(Clone, Copy)]
 struct Step {
     taken: usize,
     written: usize,

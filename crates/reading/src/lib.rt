@@ -10,20 +10,20 @@ use layout::Shape;
 use lines::{FacilityLine, Period};
 
 // A report whose lines are right. Its operating hours are its 200 lines.
-#[derive(Drop)]
+#[derive(Clone, Copy)]
 pub struct Report {
     pub period: Period,
     pub shape: Shape,
 }
 
 // A refusal of the paper's table: a number, and a line counted from 1, or 0 for the whole file.
-#[derive(Drop)]
+#[derive(Clone, Copy)]
 pub struct Refusal {
     pub number: u64,
     pub line: usize,
 }
 
-#[derive(Drop)]
+#[derive(Clone, Copy)]
 pub enum Reading {
     Clean(Report),
     Refused(Refusal),

@@ -19,14 +19,14 @@ pub fn stopped(number: u64, line: usize) -> Reading
 }
 
 // How far the walk has come: the number of the next line, and where it starts, in bytes.
-#[derive(Drop)]
+#[derive(Clone, Copy)]
 struct Cursor {
     line: usize,
     at: usize,
 }
 
 // How some lines are passed: on to the next, or not.
-#[derive(Drop)]
+#[derive(Clone, Copy)]
 enum Passage {
     On(Cursor),
     Stopped(Refusal),

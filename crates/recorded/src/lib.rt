@@ -33,7 +33,7 @@ fn gas_in(file: &[u8], s: Shape, k: usize) -> bool
 }
 
 // An operating hour among the 300 lines: the place of its line, from 0, and its time.
-#[derive(Drop)]
+#[derive(Clone, Copy)]
 pub struct ListedHour {
     pub place: usize,
     pub time: u64,

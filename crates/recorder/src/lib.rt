@@ -10,7 +10,7 @@ use layout::values;
 use layout::values::Value;
 
 // One reading of an hour: its float, measured or substituted, or none.
-#[derive(Drop)]
+#[derive(Clone, Copy)]
 pub enum RecorderReading {
     Measured(f64),
     Substituted(f64),
@@ -18,7 +18,7 @@ pub enum RecorderReading {
 }
 
 // SO2 and NOx in ppm, CO2 in percent, flow in scfh.
-#[derive(Drop)]
+#[derive(Clone, Copy)]
 pub struct RecorderHour {
     pub so2: RecorderReading,
     pub nox: RecorderReading,
@@ -27,7 +27,7 @@ pub struct RecorderHour {
 }
 
 // The words of an hour's readings, and how many of the readings are substituted.
-#[derive(Drop)]
+#[derive(Clone, Copy)]
 pub struct HourWords {
     pub so2: u32,
     pub nox: u32,
@@ -37,14 +37,14 @@ pub struct HourWords {
 }
 
 // The words, or the number of a refusal.
-#[derive(Drop)]
+#[derive(Clone, Copy)]
 pub enum Recorded {
     Words(HourWords),
     Refused(u64),
 }
 
 // The readings of an hour, in the order in which they are tried.
-#[derive(Drop)]
+#[derive(Clone, Copy)]
 pub enum Channel {
     So2,
     Nox,
@@ -64,7 +64,7 @@ const ALL_ONES: u64 = 2047;
 const SCALE: u64 = 1074;
 
 // What a float is to a recorder: whether it can be a reading and, where it can, its value, significand × 2^exponent / 2^1074.
-#[derive(Drop)]
+#[derive(Clone, Copy)]
 struct Parts {
     usable: bool,
     significand: u64,
@@ -72,7 +72,7 @@ struct Parts {
 }
 
 // A unit in which readings are recorded, num / den. A significand with `gone` or more binary places, 1074 − exponent, records as 0.
-#[derive(Drop)]
+#[derive(Clone, Copy)]
 struct RecordingUnit {
     num: u64,
     den: u64,
@@ -93,14 +93,14 @@ const THOUSAND: RecordingUnit = RecordingUnit {
 };
 
 // A channel's columns in the report, and its unit.
-#[derive(Drop)]
+#[derive(Clone, Copy)]
 struct ChannelRow {
     column: Value,
     unit: RecordingUnit,
 }
 
 // A reading tried: its units, or 44, 45 or 46 in `fault`.
-#[derive(Drop)]
+#[derive(Clone, Copy)]
 struct Tried {
     fault: u64,
     units: u64,

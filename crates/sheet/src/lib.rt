@@ -28,7 +28,7 @@ pub const FLOW_KIND: u64 = 4;
 pub const TIME_SIZE: u64 = 128;
 
 // A word of the sheet taken apart.
-#[derive(Drop)]
+#[derive(Clone, Copy)]
 pub struct Word {
     pub kind: u64,
     pub value: u64,
@@ -36,7 +36,7 @@ pub struct Word {
 
 // One operating hour as the sheet has it: the hour of the quarter (0 first), the time in hundredths of an hour, SO2, NOx and CO2 in tenths,
 // flow in scfh, Fc in tenths.
-#[derive(Drop)]
+#[derive(Clone, Copy)]
 pub struct SheetHour {
     pub hour: u64,
     pub time: u64,

@@ -12,14 +12,14 @@ use formulas::hour::Figures;
 // The sums over the hours so far, in the order of record 301: SO2, CO2 and heat input as rate × time, in thousandths of lb, tons and
 // mmBtu; NOx as the plain sum of its rates, in thousandths of lb/mmBtu, and by mass as rate × heat input × time, in millionths of lb.
 // Beside them the count of the hours.
-#[derive(Drop)]
+#[derive(Clone, Copy)]
 pub struct Totals {
     pub sums: [u64; 5],
     pub hours: u64,
 }
 
 // A quarter's operating hours; SO2 and CO2 tons and heat input in tenths, the mean NOx rate in thousandths, NOx tons in tenths.
-#[derive(Drop)]
+#[derive(Clone, Copy)]
 pub struct Quarter {
     pub hours: u64,
     pub so2: u64,

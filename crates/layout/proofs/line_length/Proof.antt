@@ -4,7 +4,7 @@ use Rattle.layout.specs.declared.Row.{Row}
 use Rattle.layout.proofs.line_length.Statement.{statement}
 use Rattle.layout.proofs.line_length.Tie as tie
 
-row-of-requires : tie.Need-row-of-requires
+row-of-requires : tie.Need-row_of-requires
 row-of-requires c κs = tt
 
 returns : tie.Need-returns

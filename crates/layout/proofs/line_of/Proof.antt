@@ -2,13 +2,13 @@ use borrow.Author.Rules.{rules}
 use Rattle.layout.proofs.line_of.Statement.{statement}
 use Rattle.layout.proofs.line_of.Tie as tie
 
-front-of-requires : tie.Need-front-of-requires
+front-of-requires : tie.Need-front_of-requires
 front-of-requires c κs = search rules
 
-add-result : tie.Need-overflow-add-result
+add-result : tie.Need-overflow_add-result
 add-result c = search rules
 
-add-result-2 : tie.Need-overflow-add-result-2
+add-result-2 : tie.Need-overflow_add-result-2
 add-result-2 c = search rules
 
 returns : tie.Need-returns

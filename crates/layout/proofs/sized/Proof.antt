@@ -10,16 +10,16 @@ use Rattle.layout.proofs.sized.Tie as tie
 most : (c : tie.Start) → let x = c.args in (x.hourly * x.s.hours ≤ 1000 * most_hours) × (x.listed * x.s.operations ≤ 1000 * most_hours)
 most c = (mul-le-mul c.requires.2 c.requires.0.hours, mul-le-mul c.requires.3 c.requires.0.operations)
 
-mul-result : tie.Need-overflow-mul-result
+mul-result : tie.Need-overflow_mul-result
 mul-result c = omega (arith, most c.before)
 
-add-result : tie.Need-overflow-add-result
+add-result : tie.Need-overflow_add-result
 add-result c = omega (arith, most c.before)
 
-mul-result-2 : tie.Need-overflow-mul-result-2
+mul-result-2 : tie.Need-overflow_mul-result-2
 mul-result-2 c = omega (arith, most c.before.before)
 
-add-result-2 : tie.Need-overflow-add-result-2
+add-result-2 : tie.Need-overflow_add-result-2
 add-result-2 c = omega (arith, most c.before.before)
 
 returns : tie.Need-returns

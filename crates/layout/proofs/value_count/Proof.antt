@@ -3,7 +3,7 @@ use Rattle.layout.specs.declared.Row.{Row}
 use Rattle.layout.proofs.value_count.Statement.{statement}
 use Rattle.layout.proofs.value_count.Tie as tie
 
-row-of-requires : tie.Need-row-of-requires
+row-of-requires : tie.Need-row_of-requires
 row-of-requires c κs = tt
 
 returns : tie.Need-returns

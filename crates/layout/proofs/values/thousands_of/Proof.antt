@@ -4,7 +4,7 @@ use borrow.Author.Rules.{rules}
 use Rattle.layout.proofs.values.thousands_of.Statement.{statement}
 use Rattle.layout.proofs.values.thousands_of.Tie as tie
 
-div-result : tie.Need-nonzero-div-result
+div-result : tie.Need-nonzero_div-result
 div-result c = search rules
 
 returns : tie.Need-returns

@@ -12,13 +12,13 @@ use Rattle.layout.proofs.values.whole_steps.Tie as tie
 step_one : (step k : ℕ) → step ≡ 1 → true ≡ eqb (k % step) 0
 step_one step k e = let whole : k % step ≡ 0 = rw e (omega arith) in sym (eq-eqb _ _ whole)
 
-returns : tie.Need-returns
-returns c = step_one _ _ c.if1.true
+returns : tie.Need-returns-then-v-eq1
+returns c = step_one _ _ c.if-v-eq1.true
 
-rem-result : tie.Need-nonzero-rem-result
+rem-result : tie.Need-nonzero_rem-result
 rem-result c = search rules
 
-returns-2 : tie.Need-returns-2
+returns-2 : tie.Need-returns
 returns-2 c = refl
 
 pub whole_steps_spec : {M : Type 1} → statement M
