@@ -16,14 +16,13 @@ use Rattle.formulas.proofs.equation_passes.Statement.{statement}
 use Rattle.formulas.proofs.equation_passes.Tie as tie
 
 -- the places of the code, each from the next one below it
-abbrev start : tie.After-figure-of → tie.Start
-start c = c.before.before
-
+abbrev start : tie.After-figure_of-figure → tie.Start
+start c = c.before.before.before.before
 -- a figure as the definitions have it lies in its columns
-figure_fits : (c : tie.After-figure-of) → c.figure-of.result ≤ 999_999
+figure_fits : (c : tie.After-figure_of-figure) → c.figure_of-figure.result ≤ 999_999
 figure_fits c =
     let s = start c in
-    rw c.figure-of.ensures (figure_most s.args.q s.args.h.figures s.pre.figures)
+    rw c.figure_of-figure.ensures (figure_most s.args.q s.args.h.figures s.requires.figures)
 
 formed : (q : Quantity) (h : Hour) (f : Formula) (k : Form) (v : ℕ) → Reduces f (equation_of q h.readings) (unit_of q) → f.form ≡ k →
     v ≡ figure_of q h.figures → formula_meets k f v ≡ readings_meet q h
@@ -32,41 +31,41 @@ formed q h f k v r e g =
     ∙ reduced_meets f (equation_of q h.readings) (unit_of q) r v
     ∙ ap (λ (n : ℕ). equation_meets (equation_of q h.readings) (span (unit_of q) n)) g
 
-formula-of-requires : tie.Need-formula-of-requires
+formula-of-requires : tie.Need-formula_of-formula-requires
 formula-of-requires c κs = search rules
 
-figure-of-requires : tie.Need-figure-of-requires
+figure-of-requires : tie.Need-figure_of-figure-requires
 figure-of-requires c κs = search rules
 
-enum_told : tie.Need-enum-told
+enum_told : tie.Need-enum_told-1
 enum_told c = search rules
 
-product-meets-requires : tie.Need-product-meets-requires
+product-meets-requires : tie.Need-product_meets-requires
 product-meets-requires c κs =
-    let g = c.before.before in
-    (room_of _ g.before.formula-of.ensures.1 c.enum_told.given.1, figure_fits g)
+    let g = c.before in
+    (room_of _ g.before.before.formula_of-formula.ensures.1 c.in-Product.is, figure_fits g)
 
-enum-told-2 : tie.Need-enum-told-2
+enum-told-2 : tie.Need-enum_told-in-Quotient
 enum-told-2 c = search rules
 
-quotient-meets-requires : tie.Need-quotient-meets-requires
+quotient-meets-requires : tie.Need-quotient_meets-requires
 quotient-meets-requires c κs =
-    let g = c.before.before in
-    (room_of _ g.before.formula-of.ensures.1 c.enum-told2.given.1, figure_fits g)
+    let g = c.before in
+    (room_of _ g.before.before.formula_of-formula.ensures.1 c.in-Quotient.is, figure_fits g)
 
-returns : tie.Need-returns
+returns : tie.Need-returns-in-Product
 returns c =
-    let g = c.before.before.before in
+    let g = c.before.before in
     let s = start g in
-    c.product-meets.ensures
-    ∙ formed s.args.q s.args.h _ _ _ g.before.formula-of.ensures.0 c.before.enum_told.given.1 g.figure-of.ensures
+    c.product_meets.ensures
+    ∙ formed s.args.q s.args.h _ _ _ g.before.before.formula_of-formula.ensures.0 c.before.in-Product.is g.figure_of-figure.ensures
 
-returns-2 : tie.Need-returns-2
+returns-2 : tie.Need-returns-in-Quotient
 returns-2 c =
-    let g = c.before.before.before in
+    let g = c.before.before in
     let s = start g in
-    c.quotient-meets.ensures
-    ∙ formed s.args.q s.args.h _ _ _ g.before.formula-of.ensures.0 c.before.enum-told2.given.1 g.figure-of.ensures
+    c.quotient_meets.ensures
+    ∙ formed s.args.q s.args.h _ _ _ g.before.before.formula_of-formula.ensures.0 c.before.in-Quotient.is g.figure_of-figure.ensures
 
 pub equation_passes_spec : {M : Type 1} → statement M
 equation_passes_spec =

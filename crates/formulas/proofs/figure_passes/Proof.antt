@@ -11,9 +11,8 @@ use Rattle.formulas.proofs.figure_passes.Statement.{statement}
 use Rattle.formulas.proofs.figure_passes.Tie as tie
 
 -- the places of the code, each from the next one below it
-abbrev start : tie.After-by-heat → tie.Start
+abbrev start : tie.After-by_heat → tie.Start
 start c = c.before
-
 -- which test a figure is put to
 tested : (q : Quantity) (h : Hour) (b : Bool) → b ≡ by_heat q h → passes_test q h ≡ cond b (gas_meets h.figures) (readings_meet q h)
 unfolding passes_test
@@ -22,28 +21,28 @@ tested q h b e = ap (λ (x : Bool). cond x (gas_meets h.figures) (readings_meet 
 judges : (q : Quantity) (h : Hour) {verdict : Bool} → HourWithin h → verdict ≡ passes_test q h → Judges q h verdict
 judges q h w e = record { test = e; exact = rw e (test_exact q h w.readings) }
 
-by-heat-requires : tie.Need-by-heat-requires
+by-heat-requires : tie.Need-by_heat-requires
 by-heat-requires c κs = search rules
 
-gas-passes-requires : tie.Need-gas-passes-requires
+gas-passes-requires : tie.Need-gas_passes-requires
 gas-passes-requires c κs = search rules
 
-returns : tie.Need-returns
+returns : tie.Need-returns-then-by_heat
 returns c =
     let a = c.before.before in
     let s = start a in
-    judges s.args.q s.args.h s.pre
-    (c.gas-passes.ensures ∙ sym (tested s.args.q s.args.h true (sym c.before.if1.true ∙ a.by-heat.ensures)))
+    judges s.args.q s.args.h s.requires
+    (c.gas_passes.ensures ∙ sym (tested s.args.q s.args.h true (sym c.before.before.if-by_heat.true ∙ a.by-heat.ensures)))
 
-equation-passes-requires : tie.Need-equation-passes-requires
+equation-passes-requires : tie.Need-equation_passes-requires
 equation-passes-requires c κs = search rules
 
-returns-2 : tie.Need-returns-2
+returns-2 : tie.Need-returns
 returns-2 c =
     let a = c.before.before in
     let s = start a in
-    judges s.args.q s.args.h s.pre
-    (c.equation-passes.ensures ∙ sym (tested s.args.q s.args.h false (sym c.before.if1.false ∙ a.by-heat.ensures)))
+    judges s.args.q s.args.h s.requires
+    (c.equation_passes.ensures ∙ sym (tested s.args.q s.args.h false (sym c.before.if-by_heat.false ∙ a.by_heat.ensures)))
 
 pub figure_passes_spec : {M : Type 1} → statement M
 figure_passes_spec =

@@ -18,26 +18,26 @@ common So2 = 10_000
 common Nox = 1_000_000
 common Co2 = 10_000
 
-enum_told : tie.Need-enum-told
+enum_told : tie.Need-enum_told-1
 enum_told c = search rules
 
-enum-told-2 : tie.Need-enum-told-2
+enum-told-2 : tie.Need-enum_told-in-So2
 enum-told-2 c = search rules
 
-enum-told-3 : tie.Need-enum-told-3
+enum-told-3 : tie.Need-enum_told-in-Nox
 enum-told-3 c = search rules
 
-mul-t7 : tie.Need-overflow-mul-t7
+mul-t7 : tie.Need-overflow_mul-result
 mul-t7 c = search rules
 
-enum-told-4 : tie.Need-enum-told-4
+enum-told-4 : tie.Need-enum_told-in-Co2
 enum-told-4 c = search rules
 
-returns : tie.Need-returns
+returns : tie.Need-returns-in-Heat
 returns c =
-    let s = c.before.before in
+    let s = c.before in
     let h = heat_factor s.args.r s.requires in
-    told s.args.r c.enum_told.given.1 (
+    told s.args.r c.in-Heat.is (
       record {
         form = refl;
         left = refl;
@@ -50,26 +50,26 @@ returns c =
       omega arith,
     )
 
-returns-2 : tie.Need-returns-2
+returns-2 : tie.Need-returns-in-So2
 returns-2 c =
-    let s = c.before.before in
-    told s.args.r c.enum-told2.given.1 (
+    let s = c.before in
+    told s.args.r c.in-So2.is (
       record { form = refl; left = refl; right = refl; common = common So2; above = lit< tt; upper = omega arith; lower = omega arith },
       omega arith,
     )
 
-returns-3 : tie.Need-returns-3
+returns-3 : tie.Need-returns-in-Nox
 returns-3 c =
-    let s = c.before.before.before in
-    told s.args.r c.before.enum-told3.given.1 (
+    let s = c.before.before in
+    told s.args.r c.before.in-Nox.is (
       record { form = refl; left = refl; right = refl; common = common Nox; above = lit< tt; upper = omega arith; lower = omega arith },
       omega arith,
     )
 
-returns-4 : tie.Need-returns-4
+returns-4 : tie.Need-returns-in-Co2
 returns-4 c =
-    let s = c.before.before in
-    told s.args.r c.enum-told4.given.1 (
+    let s = c.before in
+    told s.args.r c.in-Co2.is (
       record { form = refl; left = refl; right = refl; common = common Co2; above = lit< tt; upper = omega arith; lower = omega arith },
       omega arith,
     )

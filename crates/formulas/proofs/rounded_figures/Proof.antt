@@ -4,16 +4,16 @@ use borrow.Author.Rules.{rules}
 use Rattle.formulas.proofs.rounded_figures.Statement.{statement}
 use Rattle.formulas.proofs.rounded_figures.Tie as tie
 
-rounded-value-requires : tie.Need-rounded-value-requires
+rounded-value-requires : tie.Need-rounded_value-requires
 rounded-value-requires c κs = search rules
 
-rounded-value-requires-2 : tie.Need-rounded-value-requires-2
+rounded-value-requires-2 : tie.Need-rounded_value-requires-2
 rounded-value-requires-2 c κs = search rules
 
-rounded-value-requires-3 : tie.Need-rounded-value-requires-3
+rounded-value-requires-3 : tie.Need-rounded_value-requires-3
 rounded-value-requires-3 c κs = search rules
 
-rounded-value-requires-4 : tie.Need-rounded-value-requires-4
+rounded-value-requires-4 : tie.Need-rounded_value-requires-4
 rounded-value-requires-4 c κs = search rules
 
 returns : tie.Need-returns

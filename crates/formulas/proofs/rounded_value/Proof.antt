@@ -19,17 +19,15 @@ use Rattle.formulas.proofs.rounded_value.Statement.{statement}
 use Rattle.formulas.proofs.rounded_value.Tie as tie
 
 -- the places of the code, each from the next one below it
-abbrev product : tie.After-times → tie.After-enum-told
+abbrev product : tie.After-times → tie.In-Product
 product c = c.before
-
-abbrev quotient : tie.After-times2 → tie.After-enum-told2
+abbrev quotient : tie.After-times-in-Quotient → tie.In-Quotient
 quotient c = c.before
+product_room : (c : tie.In-Product) → ProductRoom c.before.formula_of-f.result
+product_room c = room_of _ c.before.formula_of-f.ensures.1 c.in-Product.is
 
-product_room : (c : tie.After-enum-told) → ProductRoom c.before.before.formula-of.result
-product_room c = room_of _ c.before.before.formula-of.ensures.1 c.enum_told.given.1
-
-quotient_room : (c : tie.After-enum-told2) → QuotientRoom c.before.before.formula-of.result
-quotient_room c = room_of _ c.before.before.formula-of.ensures.1 c.enum-told2.given.1
+quotient_room : (c : tie.In-Quotient) → QuotientRoom c.before.formula_of-f.result
+quotient_room c = room_of _ c.before.formula_of-f.ensures.1 c.in-Quotient.is
 
 divisor_fits : (f : Formula) → QuotientRoom f → (0 < f.den * f.right) × (f.den * f.right ≤ 1_000_000_000)
 divisor_fits f w = (mul-pos w.den.0 w.right.0, omega (arith, mul-le-mul w.den.1 w.right.1))
@@ -41,52 +39,52 @@ formed q r f k w d e =
     ap (λ (n : Form). formula_rounded n f) (sym e ∙ d.form)
     ∙ reduced_value f (equation_of q r) (unit_of q) d (equation_sound q r w).right
 
-formula-of-requires : tie.Need-formula-of-requires
+formula-of-requires : tie.Need-formula_of-f-requires
 formula-of-requires c κs = search rules
 
-enum_told : tie.Need-enum-told
+enum_told : tie.Need-enum_told-1
 enum_told c = search rules
 
 times-requires : tie.Need-times-requires
 times-requires c κs = omega (arith, product_room c)
 
-mul-half-up : tie.Need-overflow-mul-half-up
+mul-half-up : tie.Need-overflow_mul-f
 mul-half-up c = omega (arith, mul-le-mul (product_room (product c.before)).num c.before.times.ensures.1)
 
-half-up-requires : tie.Need-half-up-requires
+half-up-requires : tie.Need-half_up-requires
 half-up-requires c κs = omega (arith, product_room (product c.before), mul-le-mul (product_room (product c.before)).num c.before.times.ensures.1)
 
-enum-told-2 : tie.Need-enum-told-2
+enum-told-2 : tie.Need-enum_told-in-Quotient
 enum-told-2 c = search rules
 
-times-requires-2 : tie.Need-times-requires-2
+times-requires-2 : tie.Need-times-requires-in-Quotient
 times-requires-2 c κs = omega (arith, quotient_room c)
 
-mul-half-up-2 : tie.Need-overflow-mul-half-up-2
+mul-half-up-2 : tie.Need-overflow_mul-f-in-Quotient
 mul-half-up-2 c = omega (arith, divisor_fits _ (quotient_room (quotient c.before)))
 
-half-up-requires-2 : tie.Need-half-up-requires-2
-half-up-requires-2 c κs = omega (arith, divisor_fits _ (quotient_room (quotient c.before)), c.before.times2.ensures.1)
+half-up-requires-2 : tie.Need-half_up-requires-in-Quotient
+half-up-requires-2 c κs = omega (arith, divisor_fits _ (quotient_room (quotient c.before)), c.before.times-in-Quotient.ensures.1)
 
-returns : tie.Need-returns
+returns : tie.Need-returns-in-Product
 returns c =
     let t = c.before.before in
     let m = product t in
-    let f = m.before.before in
+    let f = m.before in
     let s = f.before in
     c.half_up.ensures
-    ∙ ap (λ (x : ℕ). nearest (f.formula-of.result.num * x) f.formula-of.result.den) t.times.ensures.0
-    ∙ formed s.args.q s.args.r _ _ s.pre f.formula-of.ensures.0 m.enum_told.given.1
+    ∙ ap (λ (x : ℕ). nearest (f.formula_of-f.result.num * x) f.formula_of-f.result.den) t.times.ensures.0
+    ∙ formed s.args.q s.args.r _ _ s.requires f.formula_of-f.ensures.0 m.in-Product.is
 
-returns-2 : tie.Need-returns-2
+returns-2 : tie.Need-returns-in-Quotient
 returns-2 c =
     let t = c.before.before in
     let m = quotient t in
-    let f = m.before.before in
+    let f = m.before in
     let s = f.before in
-    c.half-up2.ensures
-    ∙ ap (λ (x : ℕ). nearest x (f.formula-of.result.den * f.formula-of.result.right)) t.times2.ensures.0
-    ∙ formed s.args.q s.args.r _ _ s.pre f.formula-of.ensures.0 m.enum-told2.given.1
+    c.half_up-in-Quotient.ensures
+    ∙ ap (λ (x : ℕ). nearest x (f.formula_of-f.result.den * f.formula_of-f.result.right)) t.times-in-Quotient.ensures.0
+    ∙ formed s.args.q s.args.r _ _ s.requires f.formula_of-f.ensures.0 m.in-Quotient.is
 
 pub rounded_value_spec : {M : Type 1} → statement M
 rounded_value_spec =
