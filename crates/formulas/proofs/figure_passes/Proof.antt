@@ -13,6 +13,7 @@ use Rattle.formulas.proofs.figure_passes.Tie as tie
 -- the places of the code, each from the next one below it
 abbrev start : tie.After-by_heat → tie.Start
 start c = c.before
+
 -- which test a figure is put to
 tested : (q : Quantity) (h : Hour) (b : Bool) → b ≡ by_heat q h → passes_test q h ≡ cond b (gas_meets h.figures) (readings_meet q h)
 unfolding passes_test
@@ -29,10 +30,10 @@ gas-passes-requires c κs = search rules
 
 returns : tie.Need-returns-then-by_heat
 returns c =
-    let a = c.before.before in
+    let a = c.before.before.before in
     let s = start a in
     judges s.args.q s.args.h s.requires
-    (c.gas_passes.ensures ∙ sym (tested s.args.q s.args.h true (sym c.before.before.if-by_heat.true ∙ a.by-heat.ensures)))
+    (c.gas_passes.ensures ∙ sym (tested s.args.q s.args.h true (sym c.before.before.if-by_heat.true ∙ a.by_heat.ensures)))
 
 equation-passes-requires : tie.Need-equation_passes-requires
 equation-passes-requires c κs = search rules
