@@ -65,7 +65,7 @@ pub fn word_of(kind: u64, value: u64) -> u32
     (VALUE_SIZE * kind + value) as u32
 }
 
-fn word_value_lem(sheet: &[u32], i: usize) -> u64
+fn word_value(sheet: &[u32], i: usize) -> u64
     requires { i < length sheet.now }
     ensures { result ≡ word_value (get_or sheet.now i 0) }
 {
@@ -78,15 +78,15 @@ pub fn hour_at(sheet: &[u32], k: usize) -> SheetHour
     ensures { result ≡ sheet_hour sheet.now k }
 {
     let first = HOUR_WORDS * k;
-    let hour = word_value_lem(sheet, first);
+    let hour = word_value(sheet, first);
     SheetHour {
         hour: hour / TIME_SIZE,
         time: hour % TIME_SIZE,
-        so2: word_value_lem(sheet, first + 1),
-        nox: word_value_lem(sheet, first + 2),
-        co2: word_value_lem(sheet, first + 3),
-        scfh: values::FLOW_SCFH.step * word_value_lem(sheet, first + 4),
-        fc: word_value_lem(sheet, first + 5),
+        so2: word_value(sheet, first + 1),
+        nox: word_value(sheet, first + 2),
+        co2: word_value(sheet, first + 3),
+        scfh: values::FLOW_SCFH.step * word_value(sheet, first + 4),
+        fc: word_value(sheet, first + 5),
     }
 }
 

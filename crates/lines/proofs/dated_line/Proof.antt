@@ -11,24 +11,24 @@ use Rattle.lines.proofs.dated_line.Statement.{statement}
 use Rattle.lines.proofs.dated_line.Tie as tie
 
 -- the places of the code, each from the next one below it
-abbrev start : tie.Else1 → tie.Start
+abbrev start : tie.Else-common-ne0 → tie.Start
 start c = c.before.before.before.before
 
-common : (c : tie.Else1) → let x = (start c).args in common_fault x.facility.now x.t (first_line x.rest.now) ≡ 0
-common c = sym c.before.common-fault.ensures ∙ c.if1.false
+common : (c : tie.Else-common-ne0) → let x = (start c).args in common_fault x.facility.now x.t (first_line x.rest.now) ≡ 0
+common c = sym c.before.common_fault-common.ensures ∙ c.if-common-ne0.false
 
-common-fault-requires : tie.Need-common-fault-requires
+common-fault-requires : tie.Need-common_fault-common-requires
 common-fault-requires c κs = search rules
 
-returns : tie.Need-returns
+returns : tie.Need-returns-then-common-ne0
 unfolding dated_fault
-returns c = dated_faulty _ _ _ _ _ _ (first_of _ _ _ c.before.common-fault.ensures (λ e. omega arith)) (λ e. omega arith)
+returns c = dated_faulty _ _ _ _ _ _ (first_of _ _ _ c.before.common_fault-common.ensures (λ e. omega arith)) (λ e. omega arith)
 
-stamped-line-requires : tie.Need-stamped-line-requires
+stamped-line-requires : tie.Need-stamped_line-requires
 stamped-line-requires c κs = let p = (start c).requires in (common_shape _ _ _ (common c), p.1, p.2)
 
-returns-2 : tie.Need-returns-2
-returns-2 c = c.stamped-line.ensures ∙ stamped_dated _ _ _ _ _ (common c.before)
+returns-2 : tie.Need-returns
+returns-2 c = c.stamped_line.ensures ∙ stamped_dated _ _ _ _ _ (common c.before)
 
 pub dated_line_spec : {M : Type 1} → statement M
 dated_line_spec = tie.close (tie.spec common-fault-requires returns stamped-line-requires returns-2)

@@ -17,20 +17,20 @@ use Rattle.lines.proofs.first_fault.Statement.{statement}
 use Rattle.lines.proofs.first_fault.Tie as tie
 
 -- the places of the code, each from the next one below it
-abbrev start : tie.Else1 → tie.Start
+abbrev start : tie.Else-common-ne0 → tie.Start
 start c = c.before.before.before.before.before
 
-abbrev shaped : tie.After-row-of → tie.Else1
+abbrev shaped : tie.After-row_of-row → tie.Else-common-ne0
 shaped c = c.before
 
-abbrev rowed : tie.After-ranked-date-fault → tie.After-row-of
-rowed c = c.before.before
+abbrev rowed : tie.After-ranked_date_fault-dated → tie.After-row_of-row
+rowed c = c.before
 
-abbrev dating : tie.After-gas-fault → tie.After-ranked-date-fault
+abbrev dating : tie.After-gas_fault-gas → tie.After-ranked_date_fault-dated
 dating c = c.before.before
 
 -- the line, once it has no fault that every line is tried for
-module _ (c : tie.After-row-of) where
+module _ (c : tie.After-row_of-row) where
   abbrev t : RecordType
   t = (start (shaped c)).args.t
 
@@ -41,76 +41,76 @@ module _ (c : tie.After-row-of) where
   hour = (start (shaped c)).args.hour.now
 
   abbrev row : Row
-  row = c.row_of.result
+  row = c.row_of-row.result
 
   own : row ≡ row_of t
-  own = c.row_of.ensures
+  own = c.row_of-row.ensures
 
   common : common_fault (start (shaped c)).args.facility.now t (first_line rest) ≡ 0
-  common = sym (shaped c).before.common-fault.ensures ∙ (shaped c).if1.false
+  common = sym (shaped c).before.common_fault-common.ensures ∙ (shaped c).if-common-ne0.false
 
   fine : shape_fault t (first_line rest) ≡ 0
   fine = common_shape _ t (first_line rest) common
 
 -- the fault of its date
-told : (c : tie.After-ranked-date-fault) →
-    let k = rowed c in c.ranked-date-fault.result ≡ date_fault (date_column (t k)) (date_on So2Concentration (hour k)) (first_line (rest k))
+told : (c : tie.After-ranked_date_fault-dated) →
+    let k = rowed c in c.ranked_date_fault-dated.result ≡ date_fault (date_column (t k)) (date_on So2Concentration (hour k)) (first_line (rest k))
 told c =
     let k = rowed c in
-    c.ranked-date-fault.ensures ∙ rows.date_told (t k) (row k) (own k) (rest k) (fine k) (hour k) (start (shaped k)).requires.1
+    c.ranked_date_fault-dated.ensures ∙ rows.date_told (t k) (row k) (own k) (rest k) (fine k) (hour k) (start (shaped k)).requires.1
 
 -- its date has none
-undated : (c : tie.After-gas-fault) → let k = rowed (dating c) in date_fault (date_column (t k)) (date_on So2Concentration (hour k)) (first_line (rest k)) ≡ 0
-undated c = sym (told (dating c)) ∙ c.before.if2.false
+undated : (c : tie.After-gas_fault-gas) → let k = rowed (dating c) in date_fault (date_column (t k)) (date_on So2Concentration (hour k)) (first_line (rest k)) ≡ 0
+undated c = sym (told (dating c)) ∙ c.before.if-dated-ne0.false
 
 -- whether it goes together with its 200 line
-together : (c : tie.After-gas-fault) → let k = rowed (dating c) in c.gas-fault.result ≡ gas_fault (record_of (t k)).gas (hour k) (first_line (rest k))
+together : (c : tie.After-gas_fault-gas) → let k = rowed (dating c) in c.gas_fault-gas.result ≡ gas_fault (record_of (t k)).gas (hour k) (first_line (rest k))
 together c =
     let k = rowed (dating c) in
-    c.gas-fault.ensures ∙ rows.gas_told (t k) (row k) (own k) (rest k) (fine k) (hour k) (start (shaped k)).requires.1
+    c.gas_fault-gas.ensures ∙ rows.gas_told (t k) (row k) (own k) (rest k) (fine k) (hour k) (start (shaped k)).requires.1
 
-common-fault-requires : tie.Need-common-fault-requires
+common-fault-requires : tie.Need-common_fault-common-requires
 common-fault-requires c κs = search rules
 
-returns : tie.Need-returns
+returns : tie.Need-returns-then-common-ne0
 unfolding due_fault
-returns c = first_of _ _ _ c.before.common-fault.ensures (λ e. omega arith)
+returns c = first_of _ _ _ c.before.common_fault-common.ensures (λ e. omega arith)
 
-row-of-requires : tie.Need-row-of-requires
+row-of-requires : tie.Need-row_of-row-requires
 row-of-requires c κs = search rules
 
-slice-aggregate-line : tie.Need-slice-aggregate-line
-slice-aggregate-line c = let k = c.before in rows.cut (t k) (row k) (own k) (rest k) (fine k)
+slice-aggregate-line : tie.Need-slice_bounds-line-end
+slice-aggregate-line c = let k = c in rows.cut (t k) (row k) (own k) (rest k) (fine k)
 
-ranked-date-fault-requires : tie.Need-ranked-date-fault-requires
-ranked-date-fault-requires c κs = let k = c.before in rows.date_room (t k) (row k) (own k) (rest k) (fine k) (hour k) (start (shaped k)).requires.1
+ranked-date-fault-requires : tie.Need-ranked_date_fault-dated-requires
+ranked-date-fault-requires c κs = let k = c in rows.date_room (t k) (row k) (own k) (rest k) (fine k) (hour k) (start (shaped k)).requires.1
 
-returns-2 : tie.Need-returns-2
+returns-2 : tie.Need-returns-then-dated-ne0
 unfolding due_fault
 returns-2 c =
     let d = c.before in
     later_of _ _ _ (common (rowed d)) (first_of _ _ _ (told d) (λ e. omega arith))
 
-gas-fault-requires : tie.Need-gas-fault-requires
+gas-fault-requires : tie.Need-gas_fault-gas-requires
 gas-fault-requires c κs = let k = rowed c.before in rows.gas_room (t k) (row k) (own k) (rest k) (fine k) (hour k) (start (shaped k)).requires.1
 
-returns-3 : tie.Need-returns-3
+returns-3 : tie.Need-returns-then-gas-ne0
 unfolding due_fault
 returns-3 c =
     let g = c.before in
     let d = dating g in
     later_of _ _ _ (common (rowed d)) (later_of _ _ _ (undated g) (first_of _ _ _ (together g) (λ e. omega arith)))
 
-values-fault-requires : tie.Need-values-fault-requires
+values-fault-requires : tie.Need-values_fault-requires
 values-fault-requires c κs = let k = rowed (dating c.before) in rows.long (t k) (row k) (own k) (rest k) (fine k)
 
-returns-4 : tie.Need-returns-4
+returns-4 : tie.Need-returns
 unfolding due_fault
 returns-4 c =
     let g = c.before.before in
     let k = rowed (dating g) in
     later_of _ _ _ (common k) (later_of _ _ _ (undated g)
-    (later_of _ _ _ (sym (together g) ∙ c.before.if3.false) (rw (← rows.known (t k) (row k) (own k) (rest k) (fine k)) at c.values-fault.ensures)))
+    (later_of _ _ _ (sym (together g) ∙ c.before.if-gas-ne0.false) (rw (← rows.known (t k) (row k) (own k) (rest k) (fine k)) at c.values_fault.ensures)))
 
 pub first_fault_spec : {M : Type 1} → statement M
 first_fault_spec =

@@ -22,20 +22,20 @@ use Rattle.lines.proofs.stamped_line.Statement.{statement}
 use Rattle.lines.proofs.stamped_line.Tie as tie
 
 -- the places of the code, each from the next one below it
-abbrev start : tie.After-line-length → tie.Start
+abbrev start : tie.After-line_length → tie.Start
 start c = c.before.before
 
-abbrev sized : tie.After-date-column → tie.After-line-length
-sized c = c.before.before
+abbrev sized : tie.After-date_column → tie.After-line_length
+sized c = c.before
 
-abbrev columned : tie.After-read-stamp → tie.After-date-column
+abbrev columned : tie.After-read_stamp-hour → tie.After-date_column
 columned c = c.before
 
-abbrev stamped : tie.After-known-told → tie.After-read-stamp
-stamped c = c.before.before.before
+abbrev stamped : tie.In-At → tie.After-read_stamp-hour
+stamped c = c.before
 
 -- the line
-module _ (c : tie.After-line-length) where
+module _ (c : tie.After-line_length) where
   abbrev t : RecordType
   t = (start c).args.t
 
@@ -49,13 +49,13 @@ module _ (c : tie.After-line-length) where
   rest = (start c).args.rest.now
 
   abbrev line : List ℕ
-  line = take c.line_length_lem.result rest
+  line = take c.line_length.result rest
 
   known : first_line rest ≡ line
-  known = line_known t rest (start c).requires.0 c.line_length_lem.result c.line_length_lem.ensures.0
+  known = line_known t rest (start c).requires.0 c.line_length.result c.line_length.ensures.0
 
   long : length line ≡ length_of t
-  long = line_length_lem t rest (start c).requires.0 c.line_length_lem.result c.line_length_lem.ensures.0
+  long = line_length_lem t rest (start c).requires.0 c.line_length.result c.line_length.ensures.0
 
   -- what it says, once its hour is known
   says : (hour : QuarterHour) → hour_on period t (first_line rest) ≡ hour →
@@ -64,54 +64,54 @@ module _ (c : tie.After-line-length) where
   says hour e = ap (λ (h : QuarterHour). hour_said (rising_fault from h) (hour_number h)) (sym e)
 
 -- the hour that was read
-read : (c : tie.After-read-stamp) (hour : QuarterHour) → c.read-stamp.result ≡ hour →
+read : (c : tie.After-read_stamp-hour) (hour : QuarterHour) → c.read_stamp-hour.result ≡ hour →
     let k = sized (columned c) in hour_on (period k) (t k) (first_line (rest k)) ≡ hour
 read c hour e =
     let k = sized (columned c) in
     ap (hour_on (period k) (t k)) (known k)
-    ∙ ap (λ (column : ℕ). stamp_hour (period k).year (period k).quarter (columns column date_width (line k))) (sym (columned c).date-column.ensures)
-    ∙ sym c.read-stamp.ensures ∙ e
+    ∙ ap (λ (column : ℕ). stamp_hour (period k).year (period k).quarter (columns column date_width (line k))) (sym (columned c).date_column.ensures)
+    ∙ sym c.read_stamp-hour.ensures ∙ e
 
-line-length-requires : tie.Need-line-length-requires
+line-length-requires : tie.Need-line_length-requires
 line-length-requires c κs = search rules
 
-slice-aggregate-read-stamp : tie.Need-slice-aggregate-read-stamp
-slice-aggregate-read-stamp c = c.before.line_length_lem.ensures.0 ∙ sym (long c.before)
+slice-aggregate-read-stamp : tie.Need-slice_bounds-read_stamp-end
+slice-aggregate-read-stamp c = c.line_length.ensures.0 ∙ sym (long c)
 
-date-column-requires : tie.Need-date-column-requires
+date-column-requires : tie.Need-date_column-requires
 date-column-requires c κs = search rules
 
-read-stamp-requires : tie.Need-read-stamp-requires
+read-stamp-requires : tie.Need-read_stamp-hour-requires
 read-stamp-requires c κs =
     let k = sized c in
     let x = start k in
-    (record { first = omega (arith, x.pre.2, c.date-column.ensures); last = omega (arith, long k, c.date-column.ensures, date_fits (t k)) }, x.pre.1)
+    (record { first = omega (arith, x.requires.2, c.date_column.ensures); last = omega (arith, long k, c.date_column.ensures, date_fits (t k)) }, x.requires.1)
 
-enum-known-hour : tie.Need-enum-known-hour
+enum-known-hour : tie.Need-enum_known-hour
 enum-known-hour c = search rules
 
-returns : tie.Need-returns
+returns : tie.Need-returns-then-at-from
 unfolding hour_number rising_fault
 returns c =
     let h = c.before in
     let s = stamped h in
-    rw (lt-leb _ _ c.if1.true) at (says (sized (columned s)) _ (read s _ h.before.hour.given.1))
+    rw (lt-leb _ _ c.if-at-from.true) at (says (sized (columned s)) _ (read s _ h.in-At.is))
 
-enum_told : tie.Need-enum-told
+enum_told : tie.Need-enum_told-1
 enum_told c = search rules
 
-returns-2 : tie.Need-returns-2
+returns-2 : tie.Need-returns-else-at-from
 unfolding hour_number rising_fault
 returns-2 c =
     let h = c.before in
     let s = stamped h in
-    rw (le-leb _ _ c.if1.false) at (says (sized (columned s)) _ (read s _ h.before.hour.given.1))
+    rw (le-leb _ _ c.if-at-from.false) at (says (sized (columned s)) _ (read s _ h.in-At.is))
 
-returns-3 : tie.Need-returns-3
+returns-3 : tie.Need-returns-in-Outside
 unfolding hour_number rising_fault
 returns-3 c =
-    let s = c.before.before in
-    says (sized (columned s)) Outside (read s Outside c.enum_told.given.1)
+    let s = c.before in
+    says (sized (columned s)) Outside (read s Outside c.in-Outside.is)
 
 pub stamped_line_spec : {M : Type 1} → statement M
 stamped_line_spec =

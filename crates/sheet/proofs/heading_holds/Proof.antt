@@ -16,10 +16,10 @@ within-requires c κs = search rules
 within-requires-2 : tie.Need-within-requires-2
 within-requires-2 c κs = search rules
 
-all-blank-requires : tie.Need-all-blank-requires
+all-blank-requires : tie.Need-all_blank-requires
 all-blank-requires c κs = search rules
 
-all-printable-requires : tie.Need-all-printable-requires
+all-printable-requires : tie.Need-all_printable-requires
 all-printable-requires c κs = search rules
 
 told : (year quarter : ℕ) (name : List ℕ) {y q b p : Bool} → y ≡ within year_digits year → q ≡ within quarter_digit quarter
@@ -31,7 +31,7 @@ returns : tie.Need-returns
 returns c =
     let b = c.before in
     let q = b.before in
-    told _ _ _ q.before.within.ensures q.within2.ensures b.all-blank.ensures c.all-printable.ensures
+    told _ _ _ q.before.within.ensures q.within-2.ensures b.all_blank.ensures c.all_printable.ensures
 
 pub heading_holds_spec : {M : Type 1} → statement M
 heading_holds_spec =

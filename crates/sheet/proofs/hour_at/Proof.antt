@@ -12,43 +12,43 @@ use borrow.Author.Rules.{rules}
 use Rattle.sheet.proofs.hour_at.Statement.{statement}
 use Rattle.sheet.proofs.hour_at.Tie as tie
 
-mul-first : tie.Need-overflow-mul-first
+mul-first : tie.Need-overflow_mul-first
 mul-first c = search rules
 
-word-value-requires : tie.Need-word-value-requires
+word-value-requires : tie.Need-word_value-hour-requires
 word-value-requires c κs = search rules
 
-add-word-value : tie.Need-overflow-add-word-value
+add-word-value : tie.Need-overflow_add-first
 add-word-value c = search rules
 
-word-value-requires-2 : tie.Need-word-value-requires-2
+word-value-requires-2 : tie.Need-word_value-requires
 word-value-requires-2 c κs = search rules
 
-add-word-value-2 : tie.Need-overflow-add-word-value-2
+add-word-value-2 : tie.Need-overflow_add-first-2
 add-word-value-2 c = search rules
 
-word-value-requires-3 : tie.Need-word-value-requires-3
+word-value-requires-3 : tie.Need-word_value-requires-2
 word-value-requires-3 c κs = search rules
 
-add-word-value-3 : tie.Need-overflow-add-word-value-3
+add-word-value-3 : tie.Need-overflow_add-first-3
 add-word-value-3 c = search rules
 
-word-value-requires-4 : tie.Need-word-value-requires-4
+word-value-requires-4 : tie.Need-word_value-requires-3
 word-value-requires-4 c κs = search rules
 
-add-word-value-4 : tie.Need-overflow-add-word-value-4
+add-word-value-4 : tie.Need-overflow_add-first-4
 add-word-value-4 c = search rules
 
-word-value-requires-5 : tie.Need-word-value-requires-5
+word-value-requires-5 : tie.Need-word_value-requires-4
 word-value-requires-5 c κs = search rules
 
-mul-t16 : tie.Need-overflow-mul-t16
-mul-t16 c = let w = c.before.word-value5.ensures in omega arith
+mul-t16 : tie.Need-overflow_mul-result
+mul-t16 c = let w = c.before.word_value-4.ensures in omega arith
 
-add-word-value-5 : tie.Need-overflow-add-word-value-5
+add-word-value-5 : tie.Need-overflow_add-first-5
 add-word-value-5 c = search rules
 
-word-value-requires-6 : tie.Need-word-value-requires-6
+word-value-requires-6 : tie.Need-word_value-requires-5
 word-value-requires-6 c κs = search rules
 
 told : (sheet : List ℕ) (k : ℕ) {hour so2 nox co2 scfh fc : ℕ} → hour ≡ word_value (get_or sheet (hour_words * k) 0) → so2 ≡ sheet_value sheet k 1
@@ -65,8 +65,8 @@ returns c =
     let d = f.before in
     let n = d.before in
     let s = n.before in
-    told _ _ s.before.word_value_lem.ensures s.word-value2.ensures n.word-value3.ensures
-    d.word-value4.ensures f.word-value5.ensures c.word-value6.ensures
+    told _ _ s.before.word_value-hour.ensures s.word_value.ensures n.word_value-2.ensures
+    d.word_value-3.ensures f.word_value-4.ensures c.word_value-5.ensures
 
 pub hour_at_spec : {M : Type 1} → statement M
 hour_at_spec =

@@ -38,7 +38,7 @@ returns c =
     let d = f.before in
     let n = d.before in
     let s = n.before in
-    told _ s.before.within.ensures s.within2.ensures n.within3.ensures d.within4.ensures f.within5.ensures c.within6.ensures
+    told _ s.before.within.ensures s.within-2.ensures n.within-3.ensures d.within-4.ensures f.within-5.ensures c.within-6.ensures
 
 pub readings_hold_spec : {M : Type 1} → statement M
 readings_hold_spec =

@@ -1,14 +1,14 @@
 use borrow.Author.Rules.{rules}
-use Rattle.sheet.proofs.word_value_lem.Statement.{statement}
-use Rattle.sheet.proofs.word_value_lem.Tie as tie
+use Rattle.sheet.proofs.word_value.Statement.{statement}
+use Rattle.sheet.proofs.word_value.Tie as tie
 
-mul-word-apart : tie.Need-overflow-mul-word-apart
+mul-word-apart : tie.Need-offset_bounds-sheet-i
 mul-word-apart c = search rules
 
-shared-slice-read-word-apart : tie.Need-shared-slice-read-word-apart
+shared-slice-read-word-apart : tie.Need-bounds-sheet-i
 shared-slice-read-word-apart c = search rules
 
-word-apart-requires : tie.Need-word-apart-requires
+word-apart-requires : tie.Need-word_apart-requires
 word-apart-requires c κs = search rules
 
 returns : tie.Need-returns

@@ -12,10 +12,10 @@ most c = mul-le-mul c.requires.0 c.requires.1
 timed : (c : tie.Start) → c.args.rate * c.args.heat * c.args.time ≤ nox_rate.most * heat_rate.most * time_hours.most
 timed c = mul-le-mul (most c) c.requires.2
 
-mul-result : tie.Need-overflow-mul-result
+mul-result : tie.Need-overflow_mul-result
 mul-result c = omega (arith, most c)
 
-mul-result-2 : tie.Need-overflow-mul-result-2
+mul-result-2 : tie.Need-overflow_mul-result-2
 mul-result-2 c = omega (arith, timed c)
 
 returns : tie.Need-returns

@@ -4,7 +4,7 @@ use native.Mathlib.Omega.{arith}
 use Rattle.totals.proofs.weighted.Statement.{statement}
 use Rattle.totals.proofs.weighted.Tie as tie
 
-mul-result : tie.Need-overflow-mul-result
+mul-result : tie.Need-overflow_mul-result
 mul-result c = omega (arith, mul-le-mul c.requires.0 c.requires.1)
 
 returns : tie.Need-returns

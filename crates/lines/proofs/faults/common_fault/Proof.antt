@@ -17,14 +17,14 @@ use Rattle.lines.proofs.faults.common_fault.Statement.{statement}
 use Rattle.lines.proofs.faults.common_fault.Tie as tie
 
 -- the places of the code, each from the next one below it
-abbrev start : tie.Else1 → tie.Start
+abbrev start : tie.Else-fault-ne0 → tie.Start
 start c = c.before.before.before.before
 
-abbrev shaped : tie.After-line-length → tie.Else1
+abbrev shaped : tie.After-line_length-long → tie.Else-fault-ne0
 shaped c = c.before
 
 -- the line, once its shape is right and its length is known
-module _ (c : tie.After-line-length) where
+module _ (c : tie.After-line_length-long) where
   abbrev t : RecordType
   t = (start (shaped c)).args.t
 
@@ -32,35 +32,35 @@ module _ (c : tie.After-line-length) where
   rest = (start (shaped c)).args.rest.now
 
   fine : shape_fault t (first_line rest) ≡ 0
-  fine = sym (shaped c).before.shape-fault.ensures ∙ (shaped c).if1.false
+  fine = sym (shaped c).before.shape_fault-fault.ensures ∙ (shaped c).if-fault-ne0.false
 
-  known : first_line rest ≡ take c.line_length_lem.result rest
-  known = line_known t rest fine c.line_length_lem.result c.line_length_lem.ensures.0
+  known : first_line rest ≡ take c.line_length-long.result rest
+  known = line_known t rest fine c.line_length-long.result c.line_length-long.ensures.0
 
-  long : length (take c.line_length_lem.result rest) ≡ length_of t
-  long = line_length_lem t rest fine c.line_length_lem.result c.line_length_lem.ensures.0
+  long : length (take c.line_length-long.result rest) ≡ length_of t
+  long = line_length_lem t rest fine c.line_length-long.result c.line_length-long.ensures.0
 
-shape-fault-requires : tie.Need-shape-fault-requires
+shape-fault-requires : tie.Need-shape_fault-fault-requires
 shape-fault-requires c κs = search rules
 
-returns : tie.Need-returns
+returns : tie.Need-returns-then-fault-ne0
 unfolding common_fault
-returns c = first_of _ _ _ c.before.shape-fault.ensures (λ e. omega arith)
+returns c = first_of _ _ _ c.before.shape_fault-fault.ensures (λ e. omega arith)
 
-line-length-requires : tie.Need-line-length-requires
+line-length-requires : tie.Need-line_length-long-requires
 line-length-requires c κs = search rules
 
-slice-aggregate-stack-fault : tie.Need-slice-aggregate-stack-fault
-slice-aggregate-stack-fault c = c.before.line_length_lem.ensures.0 ∙ sym (long c.before)
+slice-aggregate-stack-fault : tie.Need-slice_bounds-stack_fault-end
+slice-aggregate-stack-fault c = c.line_length-long.ensures.0 ∙ sym (long c)
 
-stack-fault-requires : tie.Need-stack-fault-requires
-stack-fault-requires c κs = ((start (shaped c.before)).requires, rw (long c.before) (length_least (t c.before)))
+stack-fault-requires : tie.Need-stack_fault-requires
+stack-fault-requires c κs = ((start (shaped c)).requires, rw (long c) (length_least (t c)))
 
-returns-2 : tie.Need-returns-2
+returns-2 : tie.Need-returns
 unfolding common_fault
 returns-2 c =
-    let k = c.before.before in
-    rw (← known k) at c.stack-fault.ensures ∙ sym (or_next _ _ (fine k))
+    let k = c.before in
+    rw (← known k) at c.stack_fault.ensures ∙ sym (or_next _ _ (fine k))
 
 pub common_fault_spec : {M : Type 1} → statement M
 common_fault_spec =

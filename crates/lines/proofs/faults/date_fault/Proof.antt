@@ -9,37 +9,37 @@ use Rattle.lines.proofs.faults.date_fault.Statement.{statement}
 use Rattle.lines.proofs.faults.date_fault.Tie as tie
 
 -- the places of the code, each from the next one below it
-abbrev start : tie.After-same-bytes → tie.Start
+abbrev start : tie.After-same_bytes → tie.Start
 start c = c.before.before.before.before
 
 -- the verdict of the comparison
-told : (c : tie.After-same-bytes) → let x = (start c).args in
+told : (c : tie.After-same_bytes) → let x = (start c).args in
     date_fault x.column x.date.now x.line.now ≡ unless c.same_bytes.result 7
 told c = let p = (start c).requires.0 in date_compared _ _ _ _ _ refl (λ e. omega arith) c.same_bytes.ensures
 
-sub-from : tie.Need-overflow-sub-from
+sub-from : tie.Need-overflow_sub-from
 sub-from c = search rules
 
-add-same-bytes : tie.Need-overflow-add-same-bytes
+add-same-bytes : tie.Need-overflow_add-from
 add-same-bytes c = omega (arith, c.before.before.requires)
 
-sub-same-bytes : tie.Need-overflow-sub-same-bytes
+sub-same-bytes : tie.Need-slice_bounds-same_bytes-count
 sub-same-bytes c = search rules
 
-part-same-bytes-start : tie.Need-slice-bounds-same-bytes-start
+part-same-bytes-start : tie.Need-slice_bounds-same_bytes-start
 part-same-bytes-start c = search rules
 
-part-same-bytes-end : tie.Need-slice-bounds-same-bytes-end
+part-same-bytes-end : tie.Need-slice_bounds-same_bytes-end
 part-same-bytes-end c = omega (arith, c.before.before.requires)
 
-same-bytes-requires : tie.Need-same-bytes-requires
+same-bytes-requires : tie.Need-same_bytes-requires
 same-bytes-requires c κs = search rules
 
-returns : tie.Need-returns
-returns c = sym (told c.before ∙ rw c.if1.true)
+returns : tie.Need-returns-then-same_bytes
+returns c = sym (told c.before ∙ rw c.if-same_bytes.true)
 
-returns-2 : tie.Need-returns-2
-returns-2 c = sym (told c.before ∙ rw c.if1.false)
+returns-2 : tie.Need-returns
+returns-2 c = sym (told c.before ∙ rw c.if-same_bytes.false)
 
 pub date_fault_spec : {M : Type 1} → statement M
 date_fault_spec =

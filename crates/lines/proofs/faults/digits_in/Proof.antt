@@ -6,15 +6,15 @@ use borrow.Author.Rules.{rules}
 use Rattle.lines.proofs.faults.digits_in.Statement.{statement}
 use Rattle.lines.proofs.faults.digits_in.Tie as tie
 
-read-digits-requires : tie.Need-read-digits-requires
+read-digits-requires : tie.Need-read_digits-requires
 read-digits-requires c κs = search rules
 
-number-of-requires : tie.Need-number-of-requires
+number-of-requires : tie.Need-number_of-requires
 number-of-requires c κs = search rules
 
 returns : tie.Need-returns
 unfolding digits_in
-returns c = c.number_of_lem.ensures ∙ ap number_of c.before.read_digits_lem.ensures.0
+returns c = c.number_of.ensures ∙ ap number_of c.before.read_digits.ensures.0
 
 pub digits_in_spec : {M : Type 1} → statement M
 digits_in_spec = tie.close (tie.spec read-digits-requires number-of-requires returns)

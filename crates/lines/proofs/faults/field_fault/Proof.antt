@@ -20,53 +20,53 @@ unfolding field_fault
 number_fault v f k r s e t g u h = rw (e, ← t, g, ← u, h)
 
 -- the places of the code, each from the next one below it
-abbrev number : tie.After-in-range → tie.After-field
-number c = c.before.before
+abbrev number : tie.After-in_range → tie.In-Number
+number c = c.before
 
-abbrev ranged : tie.After-whole-steps → tie.After-in-range
+abbrev ranged : tie.After-whole_steps → tie.After-in_range
 ranged c = c.before.before
 
-enum-known-field : tie.Need-enum-known-field
+enum-known-field : tie.Need-enum_known-field
 enum-known-field c = search rules
 
-in-range-requires : tie.Need-in-range-requires
+in-range-requires : tie.Need-in_range-requires
 in-range-requires c κs = search rules
 
-returns : tie.Need-returns
+returns : tie.Need-returns-then-not-in_range
 returns c =
     let r = c.before in
-    number_fault _ _ _ false _ (number r).field.given.1 r.in_range_lem.ensures (not-true _ c.if1.true) refl refl
+    number_fault _ _ _ false _ (number r).in-Number.is r.in_range.ensures (not-true _ c.if-not-in_range.true-raw) refl refl
 
-whole-steps-requires : tie.Need-whole-steps-requires
+whole-steps-requires : tie.Need-whole_steps-requires
 whole-steps-requires c κs = search rules
 
-returns-2 : tie.Need-returns-2
+returns-2 : tie.Need-returns-then-not-whole_steps
 returns-2 c =
     let s = c.before in
     let r = ranged s in
-    number_fault _ _ _ true false (number r).field.given.1 r.in_range_lem.ensures (not-false _ s.before.if1.false) s.whole_steps_lem.ensures
-    (not-true _ c.if2.true)
+    number_fault _ _ _ true false (number r).in-Number.is r.in_range.ensures (not-false _ s.before.if-not-in_range.false-raw) s.whole_steps.ensures
+    (not-true _ c.if-not-whole_steps.true-raw)
 
-enum_told : tie.Need-enum-told
+enum_told : tie.Need-enum_told-1
 enum_told c = search rules
 
-enum-told-2 : tie.Need-enum-told-2
+enum-told-2 : tie.Need-enum_told-in-Blank
 enum-told-2 c = search rules
 
-returns-3 : tie.Need-returns-3
+returns-3 : tie.Need-returns-else-not-whole_steps
 returns-3 c =
     let s = c.before in
     let r = ranged s in
-    number_fault _ _ _ true true (number r).field.given.1 r.in_range_lem.ensures (not-false _ s.before.if1.false) s.whole_steps_lem.ensures
-    (not-false _ c.if2.false)
+    number_fault _ _ _ true true (number r).in-Number.is r.in_range.ensures (not-false _ s.before.if-not-in_range.false-raw) s.whole_steps.ensures
+    (not-false _ c.if-not-whole_steps.false-raw)
 
-returns-4 : tie.Need-returns-4
+returns-4 : tie.Need-returns-in-Malformed
 unfolding field_fault
-returns-4 c = rw c.enum_told.given.1
+returns-4 c = rw c.in-Malformed.is
 
-returns-5 : tie.Need-returns-5
+returns-5 : tie.Need-returns-in-Blank
 unfolding field_fault
-returns-5 c = rw c.enum-told2.given.1
+returns-5 c = rw c.in-Blank.is
 
 pub field_fault_spec : {M : Type 1} → statement M
 field_fault_spec =

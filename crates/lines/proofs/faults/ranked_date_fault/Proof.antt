@@ -11,32 +11,32 @@ use Rattle.lines.proofs.faults.ranked_date_fault.Statement.{statement}
 use Rattle.lines.proofs.faults.ranked_date_fault.Tie as tie
 
 -- the places of the code, each from the next one below it
-abbrev start : tie.Else1 → tie.Start
+abbrev start : tie.Else-column-eq0 → tie.Start
 start c = c.before.before.before
 
 -- a type with a date is judged by a whole 200 line
-long : (c : tie.Else1) → length (start c).args.hour.now ≡ length_of So2Concentration
-long c = let n = c.if1.false in (start c).requires.1 (omega arith)
+long : (c : tie.Else-column-eq0) → length (start c).args.hour.now ≡ length_of So2Concentration
+long c = let n = c.if-column-eq0.false in (start c).requires.1 (omega arith)
 
-returns : tie.Need-returns
+returns : tie.Need-returns-then-column-eq0
 unfolding date_fault
-returns c = rw c.if1.true
+returns c = rw c.if-column-eq0.true
 
-sub-date-fault : tie.Need-overflow-sub-date-fault
+sub-date-fault : tie.Need-slice_bounds-date_fault-count
 sub-date-fault c = search rules
 
-part-date-fault-start : tie.Need-slice-bounds-date-fault-start
+part-date-fault-start : tie.Need-slice_bounds-date_fault-start
 part-date-fault-start c = search rules
 
-part-date-fault-end : tie.Need-slice-bounds-date-fault-end
+part-date-fault-end : tie.Need-slice_bounds-date_fault-end
 part-date-fault-end c = omega (arith, long c)
 
-date-fault-requires : tie.Need-date-fault-requires
+date-fault-requires : tie.Need-date_fault-requires
 date-fault-requires c κs = search rules
 
-returns-2 : tie.Need-returns-2
+returns-2 : tie.Need-returns
 unfolding columns
-returns-2 c = c.date-fault.ensures
+returns-2 c = c.date_fault.ensures
 
 pub ranked_date_fault_spec : {M : Type 1} → statement M
 ranked_date_fault_spec =

@@ -12,25 +12,25 @@ use borrow.Author.Rules.{rules}
 use Rattle.lines.proofs.faults.stack_fault.Statement.{statement}
 use Rattle.lines.proofs.faults.stack_fault.Tie as tie
 
-sub-same-bytes : tie.Need-overflow-sub-same-bytes
+sub-same-bytes : tie.Need-slice_bounds-same_bytes-count
 sub-same-bytes c = search rules
 
-part-same-bytes-start : tie.Need-slice-bounds-same-bytes-start
+part-same-bytes-start : tie.Need-slice_bounds-same_bytes-start
 part-same-bytes-start c = search rules
 
-part-same-bytes-end : tie.Need-slice-bounds-same-bytes-end
+part-same-bytes-end : tie.Need-slice_bounds-same_bytes-end
 part-same-bytes-end c = search rules
 
-sub-same-bytes-2 : tie.Need-overflow-sub-same-bytes-2
+sub-same-bytes-2 : tie.Need-slice_bounds-same_bytes-count-2
 sub-same-bytes-2 c = search rules
 
-part-same-bytes-start-2 : tie.Need-slice-bounds-same-bytes-start-2
+part-same-bytes-start-2 : tie.Need-slice_bounds-same_bytes-start-2
 part-same-bytes-start-2 c = search rules
 
-part-same-bytes-end-2 : tie.Need-slice-bounds-same-bytes-end-2
+part-same-bytes-end-2 : tie.Need-slice_bounds-same_bytes-end-2
 part-same-bytes-end-2 c = search rules
 
-same-bytes-requires : tie.Need-same-bytes-requires
+same-bytes-requires : tie.Need-same_bytes-requires
 same-bytes-requires c κs = search rules
 
 stack_compared : (facility line : List ℕ) {b : Bool} → b ≡ same (columns stack_start stack_width line) (columns stack_start stack_width facility) →
@@ -38,13 +38,13 @@ stack_compared : (facility line : List ℕ) {b : Bool} → b ≡ same (columns s
 unfolding stack_fault
 stack_compared facility line e = rw e
 
-returns : tie.Need-returns
+returns : tie.Need-returns-then-same_bytes
 unfolding columns
-returns c = sym (stack_compared _ _ c.before.same_bytes.ensures ∙ rw c.if1.true)
+returns c = sym (stack_compared _ _ c.before.same_bytes.ensures ∙ rw c.if-same_bytes.true)
 
-returns-2 : tie.Need-returns-2
+returns-2 : tie.Need-returns
 unfolding columns
-returns-2 c = sym (stack_compared _ _ c.before.same_bytes.ensures ∙ rw c.if1.false)
+returns-2 c = sym (stack_compared _ _ c.before.same_bytes.ensures ∙ rw c.if-same_bytes.false)
 
 pub stack_fault_spec : {M : Type 1} → statement M
 stack_fault_spec =

@@ -13,62 +13,62 @@ use Rattle.lines.proofs.Values.{first_fault_lem, next_fault, values_end}
 use Rattle.lines.proofs.faults.values_fault.Statement.{statement}
 use Rattle.lines.proofs.faults.values_fault.Tie as tie
 
-abbrev invariant-loop : tie.invariant-loop
+abbrev invariant-loop : tie.invariant-loop-i
 invariant-loop line t count i₀ i = (i ≤ count) × (values_fault (drop i (values_of t)) line ≡ values_fault (values_of t) line)
 
-abbrev decreases-loop : tie.decreases-loop
+abbrev decreases-loop : tie.decreases-loop-i
 decreases-loop line t count i₀ i = count - i
 
 -- the places of the code, each from the next one below it
-abbrev start : tie.At-loop invariant-loop decreases-loop → tie.Start invariant-loop decreases-loop
+abbrev start : tie.At-loop-i invariant-loop decreases-loop → tie.Start invariant-loop decreases-loop
 start c = c.before.before.before
 
-abbrev passed : tie.After-value-at invariant-loop decreases-loop → tie.At-loop invariant-loop decreases-loop
+abbrev passed : tie.After-value_at invariant-loop decreases-loop → tie.At-loop-i invariant-loop decreases-loop
 passed c = c.before.before
 
-abbrev t : tie.At-loop invariant-loop decreases-loop → RecordType
+abbrev t : tie.At-loop-i invariant-loop decreases-loop → RecordType
 t c = (start c).args.t
 
-abbrev line : tie.At-loop invariant-loop decreases-loop → List ℕ
+abbrev line : tie.At-loop-i invariant-loop decreases-loop → List ℕ
 line c = (start c).args.line.now
 
-value-count-requires : tie.Need-value-count-requires invariant-loop decreases-loop
+value-count-requires : tie.Need-value_count-count-requires invariant-loop decreases-loop
 value-count-requires c κs = search rules
 
-loop-holds : tie.Need-loop-init invariant-loop decreases-loop
+loop-holds : tie.Need-loop-i-init invariant-loop decreases-loop
 loop-holds c = (omega arith, refl)
 
-value-at-requires : tie.Need-value-at-requires invariant-loop decreases-loop
+value-at-requires : tie.Need-value_at-requires invariant-loop decreases-loop
 value-at-requires c κs = omega arith
 
-value-fault-requires : tie.Need-value-fault-requires invariant-loop decreases-loop
+value-fault-requires : tie.Need-value_fault-fault-requires invariant-loop decreases-loop
 value-fault-requires c κs =
     let l = passed c in
-    ((start l).pre, rw c.value_at_lem.ensures (value_inside (t l) l.loop.i (omega arith)))
+    ((start l).requires, rw c.value_at.ensures (value_inside (t l) l.loop-i.i (omega arith)))
 
-returns : tie.Need-returns invariant-loop decreases-loop
+returns : tie.Need-returns-then-fault-ne0 invariant-loop decreases-loop
 returns c =
     let v = c.before.before in
     let l = passed v in
-    first_fault_lem (t l) (line l) l.loop.i _ _ (omega arith) v.value_at_lem.ensures c.before.value-fault.ensures (λ e. omega arith) ∙ l.loop.inv.1
+    first_fault_lem (t l) (line l) l.loop-i.i _ _ (omega arith) v.value_at.ensures c.before.value_fault-fault.ensures (λ e. omega arith) ∙ l.loop-i.invariant.1
 
-add-i : tie.Need-overflow-add-i invariant-loop decreases-loop
+add-i : tie.Need-overflow_add-i invariant-loop decreases-loop
 add-i c = omega arith
 
-loop-less : tie.Need-loop-smaller invariant-loop decreases-loop
+loop-less : tie.Need-loop-i-smaller invariant-loop decreases-loop
 loop-less c = omega arith
 
-loop-again : tie.Need-loop-preserved invariant-loop decreases-loop
+loop-again : tie.Need-loop-i-preserved invariant-loop decreases-loop
 loop-again c =
     let v = c.before.before in
     let l = passed v in
-    let e = next_fault (t l) (line l) l.loop.i _ _ (omega arith) v.value_at_lem.ensures c.before.value-fault.ensures (omega arith) in
-    (omega arith, e ∙ l.loop.inv.1)
+    let e = next_fault (t l) (line l) l.loop-i.i _ _ (omega arith) v.value_at.ensures c.before.value_fault-fault.ensures (omega arith) in
+    (omega arith, e ∙ l.loop-i.invariant.1)
 
-returns-2 : tie.Need-returns-2 invariant-loop decreases-loop
+returns-2 : tie.Need-returns invariant-loop decreases-loop
 returns-2 c =
     let l = c.before in
-    sym (values_end (t l) (line l) l.loop.i (omega arith)) ∙ l.loop.invariant.1
+    sym (values_end (t l) (line l) l.loop-i.i (omega arith)) ∙ l.loop-i.invariant.1
 
 pub values_fault_spec : {M : Type 1} → statement M
 values_fault_spec =

@@ -11,10 +11,10 @@ use Rattle.lines.proofs.gas.gas_fault.Statement.{statement}
 use Rattle.lines.proofs.gas.gas_fault.Tie as tie
 
 -- the places of the code, each from the next one below it
-abbrev start : tie.Else1 → tie.Start
+abbrev start : tie.Else-not-gas → tie.Start
 start c = c.before.before.before
 
-abbrev looked : tie.After-so2-blank → tie.Else1
+abbrev looked : tie.After-so2_blank → tie.Else-not-gas
 looked c = c.before.before
 
 -- where it may not, there is nothing to test
@@ -34,26 +34,26 @@ compared true false = refl
 compared false true = refl
 compared false false = refl
 
-told : (c : tie.After-so2-blank) (same : Bool) → beq c.before.has-gas.result c.so2-blank.result ≡ same →
+told : (c : tie.After-so2_blank) (same : Bool) → beq c.before.has_gas.result c.so2_blank.result ≡ same →
     let x = (start (looked c)).args in unless same 49 ≡ gas_fault x.gas x.hour.now x.line.now
 told c same e =
-    ap (λ (t : Bool). unless t 49) (sym e ∙ compared c.before.has-gas.result c.so2-blank.result)
-    ∙ tested _ _ _ (not-false _ (looked c).if1.false) c.before.has-gas.ensures c.so2-blank.ensures
+    ap (λ (t : Bool). unless t 49) (sym e ∙ compared c.before.has_gas.result c.so2_blank.result)
+    ∙ tested _ _ _ (not-false _ (looked c).if-not-gas.false-raw) c.before.has_gas.ensures c.so2_blank.ensures
 
-returns : tie.Need-returns
-returns c = untested _ _ _ (not-true _ c.if1.true)
+returns : tie.Need-returns-then-not-gas
+returns c = untested _ _ _ (not-true _ c.if-not-gas.true-raw)
 
-has-gas-requires : tie.Need-has-gas-requires
-has-gas-requires c κs = ((start c).requires (not-false _ c.if1.false)).0
+has-gas-requires : tie.Need-has_gas-requires
+has-gas-requires c κs = ((start c).requires (not-false _ c.if-not-gas.false-raw)).0
 
-so2-blank-requires : tie.Need-so2-blank-requires
-so2-blank-requires c κs = ((start c.before).requires (not-false _ c.before.if1.false)).1
+so2-blank-requires : tie.Need-so2_blank-requires
+so2-blank-requires c κs = ((start c.before).requires (not-false _ c.before.if-not-gas.false-raw)).1
 
-returns-2 : tie.Need-returns-2
-returns-2 c = told c.before true c.if2.true
+returns-2 : tie.Need-returns-then-has_gas-so2_blank
+returns-2 c = told c.before true c.if-has_gas-so2_blank.true
 
-returns-3 : tie.Need-returns-3
-returns-3 c = told c.before false c.if2.false
+returns-3 : tie.Need-returns
+returns-3 c = told c.before false c.if-has_gas-so2_blank.false
 
 pub gas_fault_spec : {M : Type 1} → statement M
 gas_fault_spec =

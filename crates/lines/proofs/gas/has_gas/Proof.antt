@@ -5,7 +5,7 @@ use borrow.Author.Rules.{rules}
 use Rattle.lines.proofs.gas.has_gas.Statement.{statement}
 use Rattle.lines.proofs.gas.has_gas.Tie as tie
 
-sub-same-bytes : tie.Need-overflow-sub-same-bytes
+sub-same-bytes : tie.Need-slice_bounds-same_bytes-count
 sub-same-bytes c = search rules
 
 part-same-bytes-start : tie.Need-slice-bounds-same-bytes-start
@@ -17,7 +17,7 @@ part-same-bytes-end c = search rules
 slice-aggregate-same-bytes : tie.Need-slice-aggregate-same-bytes
 slice-aggregate-same-bytes c = search rules
 
-same-bytes-requires : tie.Need-same-bytes-requires
+same-bytes-requires : tie.Need-same_bytes-requires
 same-bytes-requires c κs = search rules
 
 returns : tie.Need-returns

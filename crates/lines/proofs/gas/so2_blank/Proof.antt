@@ -7,27 +7,27 @@ use borrow.Author.Rules.{rules}
 use Rattle.lines.proofs.gas.so2_blank.Statement.{statement}
 use Rattle.lines.proofs.gas.so2_blank.Tie as tie
 
-sub-from : tie.Need-overflow-sub-from
+sub-from : tie.Need-overflow_sub-from
 sub-from c = search rules
 
-add-all-blank : tie.Need-overflow-add-all-blank
+add-all-blank : tie.Need-overflow_add-from
 add-all-blank c = search rules
 
-sub-all-blank : tie.Need-overflow-sub-all-blank
+sub-all-blank : tie.Need-slice_bounds-all_blank-count
 sub-all-blank c = search rules
 
-part-all-blank-start : tie.Need-slice-bounds-all-blank-start
+part-all-blank-start : tie.Need-slice_bounds-all_blank-start
 part-all-blank-start c = search rules
 
-part-all-blank-end : tie.Need-slice-bounds-all-blank-end
+part-all-blank-end : tie.Need-slice_bounds-all_blank-end
 part-all-blank-end c = search rules
 
-all-blank-requires : tie.Need-all-blank-requires
+all-blank-requires : tie.Need-all_blank-requires
 all-blank-requires c κs = search rules
 
 returns : tie.Need-returns
 unfolding so2_blank columns
-returns c = c.all-blank.ensures ∙ sym (field_empty 1 _)
+returns c = c.all_blank.ensures ∙ sym (field_empty 1 _)
 
 pub so2_blank_spec : {M : Type 1} → statement M
 so2_blank_spec =

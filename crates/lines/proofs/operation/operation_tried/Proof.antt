@@ -18,17 +18,17 @@ use Rattle.lines.proofs.operation.operation_tried.Statement.{statement}
 use Rattle.lines.proofs.operation.operation_tried.Tie as tie
 
 -- the places of the code, each from the next one below it
-abbrev start : tie.After-dated-line → tie.Start
+abbrev start : tie.After-dated_line-dated → tie.Start
 start c = c.before.before.before.before
 
-abbrev dated : tie.After-known-told → tie.After-dated-line
-dated c = c.before.before.before
+abbrev dated : tie.In-At → tie.After-dated_line-dated
+dated c = c.before
 
-abbrev faulty : tie.After-known-told2 → tie.After-dated-line
-faulty c = c.before.before.before
+abbrev faulty : tie.In-Faulty → tie.After-dated_line-dated
+faulty c = c.before
 
 -- the line, once its hour is known
-module _ (c : tie.After-known-told) where
+module _ (c : tie.In-At) where
   abbrev period : Period
   period = (start (dated c)).args.period
 
@@ -45,40 +45,40 @@ module _ (c : tie.After-known-told) where
   line = take (length_of Operation) rest
 
   abbrev hour : ℕ
-  hour = c.before.dated.given.0.0
+  hour = c.in-At.hour
 
   told : Dated facility period Operation from rest hour
-  told = dated_known facility period Operation from rest hour (dated c).dated-line.ensures c.before.dated.given.1
+  told = dated_known facility period Operation from rest hour (dated c).dated_line-dated.ensures c.in-At.is
 
   behind : (date : List ℕ) → operation_of (timed_fault date line) hour line ≡ operation_line facility period from date (first_line rest)
   unfolding operation_line operation_fault
   behind date = rw (← told.known, or_next _ _ told.none, told.own)
 
-dated-line-requires : tie.Need-dated-line-requires
+dated-line-requires : tie.Need-dated_line-dated-requires
 dated-line-requires c κs = search rules
 
-enum-known-dated : tie.Need-enum-known-dated
+enum-known-dated : tie.Need-enum_known-dated
 enum-known-dated c = search rules
 
-slice-aggregate-timed-line : tie.Need-slice-aggregate-timed-line
-slice-aggregate-timed-line c = sym (told c.before).long
+slice-aggregate-timed-line : tie.Need-slice_bounds-timed_line-end
+slice-aggregate-timed-line c = sym (told c).long
 
-timed-line-requires : tie.Need-timed-line-requires
-timed-line-requires c κs = (told c.before).long
+timed-line-requires : tie.Need-timed_line-requires
+timed-line-requires c κs = (told c).long
 
-enum-known-dated-2 : tie.Need-enum-known-dated-2
+enum-known-dated-2 : tie.Need-enum_known-dated-in-Faulty-1
 enum-known-dated-2 c = search rules
 
-returns : tie.Need-returns
-returns c = let k = c.before.before in c.timed-line.ensures ∙ behind k (start (dated k)).args.date.now
+returns : tie.Need-returns-in-At
+returns c = let k = c.before in c.timed_line.ensures ∙ behind k (start (dated k)).args.date.now
 
-returns-2 : tie.Need-returns-2
+returns-2 : tie.Need-returns-in-Faulty
 unfolding operation_line operation_fault
 returns-2 c =
     let d = faulty c in
     let x = (start d).args in
     let line = first_line x.rest.now in
-    let n = dated_not _ _ Operation _ _ _ (sym d.dated-line.ensures ∙ c.before.dated2.given.1) in
+    let n = dated_not _ _ Operation _ _ _ (sym d.dated_line-dated.ensures ∙ c.in-Faulty.is) in
     let hour = cond (operates line) (Operating (hour_in x.period Operation line)) (Idle (hour_in x.period Operation line)) in
     operation_faulty _ hour n.1 ∙ ap (λ fault. said_of fault hour) (first_of _ _ _ (sym n.0) n.1)
 

@@ -36,42 +36,42 @@ module _ (date line : List ℕ) (hour : ℕ) (right : field_fault listed_time (t
   operating_said fault p f = by_time true fault (Operating hour) (lt-ltb 0 (number_of (time_in line)) p) (sym f) refl
 
 -- the places of the code, each from the next one below it
-abbrev start : tie.After-read-number → tie.Start
+abbrev start : tie.After-read_number-time → tie.Start
 start c = c.before.before.before
 
-abbrev read : tie.After-field-fault → tie.After-read-number
+abbrev read : tie.After-field_fault-fault → tie.After-read_number-time
 read c = c.before
 
-abbrev right : tie.After-number-of → tie.After-field-fault
+abbrev right : tie.After-number_of → tie.After-field_fault-fault
 right c = c.before.before
 
-abbrev idle : tie.After-idle-fault → tie.After-number-of
+abbrev idle : tie.After-idle_fault → tie.After-number_of
 idle c = c.before.before.before
 
-abbrev operating : tie.After-operating-fault → tie.After-number-of
+abbrev operating : tie.After-operating_fault → tie.After-number_of
 operating c = c.before.before
 
-module _ (c : tie.After-field-fault) where
+module _ (c : tie.After-field_fault-fault) where
   abbrev line : List ℕ
   line = (start (read c)).args.line.now
 
-  told : c.field-fault.result ≡ field_fault listed_time (time_in line)
-  told = c.field-fault.ensures ∙ ap (field_fault listed_time) (read c).read_number.ensures.0
+  told : c.field_fault-fault.result ≡ field_fault listed_time (time_in line)
+  told = c.field_fault-fault.ensures ∙ ap (field_fault listed_time) (read c).read_number-time.ensures.0
 
-module _ (c : tie.After-number-of) where
+module _ (c : tie.After-number_of) where
   fine : field_fault listed_time (time_in (line (right c))) ≡ 0
-  fine = sym (told (right c)) ∙ c.before.if1.false
+  fine = sym (told (right c)) ∙ c.before.if-fault-ne0.false
 
-  time : c.number_of_lem.result ≡ number_of (time_in (line (right c)))
-  time = c.number_of_lem.ensures ∙ ap number_of (read (right c)).read_number.ensures.0
+  time : c.number_of.result ≡ number_of (time_in (line (right c)))
+  time = c.number_of.ensures ∙ ap number_of (read (right c)).read_number-time.ensures.0
 
-read-number-requires : tie.Need-read-number-requires
+read-number-requires : tie.Need-read_number-time-requires
 read-number-requires c κs = search rules
 
-field-fault-requires : tie.Need-field-fault-requires
+field-fault-requires : tie.Need-field_fault-fault-requires
 field-fault-requires c κs = search rules
 
-returns : tie.Need-returns
+returns : tie.Need-returns-then-fault-ne0
 unfolding timed_fault
 returns c =
     let f = c.before in
@@ -79,40 +79,40 @@ returns c =
     let hour = cond (operates x.line.now) (Operating x.hour) (Idle x.hour) in
     operation_faulty _ hour (λ e. omega arith) ∙ ap (λ fault. said_of fault hour) (first_of _ _ _ (told f) (λ e. omega arith))
 
-number-of-requires : tie.Need-number-of-requires
+number-of-requires : tie.Need-number_of-requires
 number-of-requires c κs = search rules
 
-read-number-requires-2 : tie.Need-read-number-requires-2
+read-number-requires-2 : tie.Need-read_number-heat-requires
 read-number-requires-2 c κs = search rules
 
-idle-fault-requires : tie.Need-idle-fault-requires
+idle-fault-requires : tie.Need-idle_fault-requires
 idle-fault-requires c κs = search rules
 
 said-requires : tie.Need-said-requires
 said-requires c κs = search rules
 
-returns-2 : tie.Need-returns-2
+returns-2 : tie.Need-returns-then-number_of-eq0
 returns-2 c =
     let f = c.before in
     let n = idle f in
     let x = (start (read (right n))).args in
     c.said.ensures
-    ∙ idle_said x.date.now x.line.now x.hour (fine n) _ (sym (time n) ∙ f.before.before.if2.true)
-    (f.idle-fault.ensures ∙ ap idle_fault f.before.read-number2.ensures.0)
+    ∙ idle_said x.date.now x.line.now x.hour (fine n) _ (sym (time n) ∙ f.before.before.if-number_of-eq0.true)
+    (f.idle_fault.ensures ∙ ap idle_fault f.before.read_number-heat.ensures.0)
 
-operating-fault-requires : tie.Need-operating-fault-requires
+operating-fault-requires : tie.Need-operating_fault-requires
 operating-fault-requires c κs = search rules
 
 said-requires-2 : tie.Need-said-requires-2
 said-requires-2 c κs = search rules
 
-returns-3 : tie.Need-returns-3
+returns-3 : tie.Need-returns
 returns-3 c =
     let f = c.before in
     let n = operating f in
     let x = (start (read (right n))).args in
-    c.said2.ensures
-    ∙ operating_said x.date.now x.line.now x.hour (fine n) _ (omega (arith, time n, f.before.if2.false)) f.operating-fault.ensures
+    c.said-2.ensures
+    ∙ operating_said x.date.now x.line.now x.hour (fine n) _ (omega (arith, time n, f.before.if-number_of-eq0.false)) f.operating_fault.ensures
 
 pub timed_line_spec : {M : Type 1} → statement M
 timed_line_spec =

@@ -19,45 +19,45 @@ use Rattle.lines.proofs.picture.is_operating.Tie as tie
 abbrev start : tie.After-line → tie.Start
 start c = c.before.before.before.before.before.before
 
-abbrev dated : tie.Else2 → tie.After-line
+abbrev dated : tie.Else-date_fault-ne0 → tie.After-line
 dated c = c.before.before
 
-abbrev fitting : tie.Else3 → tie.Else2
+abbrev fitting : tie.Else-not-is_pictured → tie.Else-date_fault-ne0
 fitting c = c.before.before
 
 abbrev rest : tie.After-line → List ℕ
 rest c = (start c).args.rest.now
 
 long : (c : tie.After-line) → length (take (length_of Operation) (rest c)) ≡ length_of Operation
-long c = length-take-le (length_of Operation) (rest c) (omega (arith, c.before.if1.false))
+long c = length-take-le (length_of Operation) (rest c) (omega (arith, c.before.if-rest-lt-OPERATION_LENGTH.false))
 
-returns : tie.Need-returns
+returns : tie.Need-returns-then-rest-lt-OPERATION_LENGTH
 returns c e = absurd (false≢true e)
 
-slice-aggregate-line : tie.Need-slice-aggregate-line
+slice-aggregate-line : tie.Need-slice_bounds-line-end
 slice-aggregate-line c = sym (long c)
 
-date-fault-requires : tie.Need-date-fault-requires
+date-fault-requires : tie.Need-date_fault-requires
 date-fault-requires c κs = omega (arith, long c)
 
-returns-2 : tie.Need-returns-2
+returns-2 : tie.Need-returns-then-date_fault-ne0
 returns-2 c e = absurd (false≢true e)
 
-is-pictured-requires : tie.Need-is-pictured-requires
+is-pictured-requires : tie.Need-is_pictured-requires
 is-pictured-requires c κs = search rules
 
-returns-3 : tie.Need-returns-3
+returns-3 : tie.Need-returns-then-not-is_pictured
 returns-3 c e = absurd (false≢true e)
 
 ranged-requires : tie.Need-ranged-requires
 ranged-requires c κs = (long (dated (fitting c)), value_inside Operation 0 (omega arith))
 
-returns-4 : tie.Need-returns-4
+returns-4 : tie.Need-returns
 returns-4 c e =
     let f = c.before in
     let d = fitting f in
-    let fits = f.before.is-pictured.ensures (not-false _ f.if3.false) in
-    fitting_operation _ _ _ fits (sym d.before.date-fault.ensures ∙ d.if2.left) (sym c.ranged.ensures ∙ e)
+    let fits = f.before.is_pictured.ensures (not-false _ f.if-not-is_pictured.false-raw) in
+    fitting_operation _ _ _ fits (sym d.before.date_fault.ensures ∙ d.if-date_fault-ne0.false) (sym c.ranged.ensures ∙ e)
 
 pub is_operating_spec : {M : Type 1} → statement M
 is_operating_spec =

@@ -22,7 +22,7 @@ use Rattle.lines.proofs.picture.is_pictured.Tie as tie
 abbrev start : tie.After-fits-arg → tie.Start
 start c = c.before.before.before.before.before.before.before
 
-abbrev asked : tie.Else3 → tie.After-fits-arg
+abbrev asked : tie.Else-not-fits → tie.After-fits-arg
 asked c = c.before.before
 
 -- the part of the picture that its line has
@@ -40,53 +40,53 @@ module _ (c : tie.After-fits-arg) where
   more = omega (arith, (start c).requires.1)
 
   end : get_or rest (length_of t) 0 ≡ 10
-  end = ap (λ (n : ℕ). get_or rest n 0) (sym (start c).requires.1) ∙ c.before.if2.false
+  end = ap (λ (n : ℕ). get_or rest n 0) (sym (start c).requires.1) ∙ c.before.if-rest-long-ne10.false
 
-returns : tie.Need-returns
+returns : tie.Need-returns-then-rest-long
 returns c e = absurd (false≢true e)
 
-shared-slice-read-if2 : tie.Need-shared-slice-read-if2
+shared-slice-read-if2 : tie.Need-bounds-rest-long
 shared-slice-read-if2 c = search rules
 
-returns-2 : tie.Need-returns-2
+returns-2 : tie.Need-returns-then-rest-long-ne10
 returns-2 c e = absurd (false≢true e)
 
-slice-aggregate-fits : tie.Need-slice-aggregate-fits
+slice-aggregate-fits : tie.Need-slice_bounds-fits-end
 slice-aggregate-fits c = (start c).requires.1 ∙ sym (picture_length (t c)) ∙ sym (ap length (taken c))
 
 fits-requires : tie.Need-fits-requires
 fits-requires c κs = omega (arith, ap length (taken c), picture_length (t c), more c)
 
-returns-3 : tie.Need-returns-3
+returns-3 : tie.Need-returns-then-not-fits
 returns-3 c e = absurd (false≢true e)
 
-sub-same-bytes : tie.Need-overflow-sub-same-bytes
+sub-same-bytes : tie.Need-slice_bounds-same_bytes-count
 sub-same-bytes c = search rules
 
-part-same-bytes-start : tie.Need-slice-bounds-same-bytes-start
+part-same-bytes-start : tie.Need-slice_bounds-same_bytes-start
 part-same-bytes-start c = search rules
 
-part-same-bytes-end : tie.Need-slice-bounds-same-bytes-end
+part-same-bytes-end : tie.Need-slice_bounds-same_bytes-end
 part-same-bytes-end c = let k = asked c in omega (arith, more k, length_least (t k))
 
-sub-same-bytes-2 : tie.Need-overflow-sub-same-bytes-2
+sub-same-bytes-2 : tie.Need-slice_bounds-same_bytes-count-2
 sub-same-bytes-2 c = search rules
 
-part-same-bytes-start-2 : tie.Need-slice-bounds-same-bytes-start-2
+part-same-bytes-start-2 : tie.Need-slice_bounds-same_bytes-start-2
 part-same-bytes-start-2 c = search rules
 
-part-same-bytes-end-2 : tie.Need-slice-bounds-same-bytes-end-2
+part-same-bytes-end-2 : tie.Need-slice_bounds-same_bytes-end-2
 part-same-bytes-end-2 c = search rules
 
-same-bytes-requires : tie.Need-same-bytes-requires
+same-bytes-requires : tie.Need-same_bytes-requires
 same-bytes-requires c κs = search rules
 
-returns-4 : tie.Need-returns-4
+returns-4 : tie.Need-returns
 unfolding columns
 returns-4 c =
     let d = c.before.before.before in
     let k = asked d in
-    let f : Fits (picture_of (t k)) (rest k) = rw (taken k) at (d.before.fits2.ensures (not-false _ d.if3.false)) in
+    let f : Fits (picture_of (t k)) (rest k) = rw (taken k) at (d.before.fits2.ensures (not-false _ d.if-not-fits.false-raw)) in
     λ e. pictured (t k) _ (rest k) (more k) (end k) f (sym c.same_bytes.ensures ∙ e)
 
 pub is_pictured_spec : {M : Type 1} → statement M

@@ -10,29 +10,29 @@ use borrow.Author.Rules.{rules}
 use Rattle.lines.proofs.shape.is_line.Statement.{statement}
 use Rattle.lines.proofs.shape.is_line.Tie as tie
 
-returns : tie.Need-returns
+returns : tie.Need-returns-then-rest-long
 unfolding is_line
 returns c =
     let x = c.before.before.args in
     let h : length x.rest.now ≤ x.long = omega arith in
     rw (get_or-eq_default x.rest.now 0 h)
 
-shared-slice-read-if2 : tie.Need-shared-slice-read-if2
+shared-slice-read-if2 : tie.Need-bounds-rest-long
 shared-slice-read-if2 c = search rules
 
-returns-2 : tie.Need-returns-2
+returns-2 : tie.Need-returns-then-rest-long-ne10
 unfolding is_line
-returns-2 c = rw (ne_eqb _ 10 c.if2.true)
+returns-2 c = rw (ne_eqb _ 10 c.if-rest-long-ne10.true)
 
-slice-aggregate-all-printable : tie.Need-slice-aggregate-all-printable
+slice-aggregate-all-printable : tie.Need-slice_bounds-all_printable-end
 slice-aggregate-all-printable c = sym (length-take-le _ _ (omega arith))
 
-all-printable-requires : tie.Need-all-printable-requires
+all-printable-requires : tie.Need-all_printable-requires
 all-printable-requires c κs = search rules
 
-returns-3 : tie.Need-returns-3
+returns-3 : tie.Need-returns
 unfolding is_line
-returns-3 c = c.all-printable.ensures ∙ sym (rw (eq-eqb _ 10 c.before.before.if2.false))
+returns-3 c = c.all_printable.ensures ∙ sym (rw (eq-eqb _ 10 c.before.if-rest-long-ne10.false))
 
 pub is_line_spec : {M : Type 1} → statement M
 is_line_spec =
