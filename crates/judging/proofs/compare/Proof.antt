@@ -12,23 +12,23 @@ faulty : (fault rank : ℕ) (rest : Verdict) → (fault ≡ 0 → ⊥) → faile
 faulty zero rank rest h = absurd (h refl)
 faulty (suc fault) rank rest h = refl
 
-totals-fault-requires : tie.Need-totals-fault-requires
+totals-fault-requires : tie.Need-totals_fault-number-requires
 totals-fault-requires c κs = search rules
 
-returns : tie.Need-returns
+returns : tie.Need-returns-then-number-eq0
 unfolding compared_totals
 returns c =
     let t = c.before in
     let a = t.before.args in
-    sym (ap (λ (n : ℕ). failed_or n 0 (Accepted a.formed)) (sym t.totals-fault.ensures ∙ c.if1.true))
+    sym (ap (λ (n : ℕ). failed_or n 0 (Accepted a.formed)) (sym t.totals_fault-number.ensures ∙ c.if-number-eq0.true))
 
-returns-2 : tie.Need-returns-2
+returns-2 : tie.Need-returns
 unfolding compared_totals
 returns-2 c =
     let t = c.before in
     let a = t.before.args in
-    faulty t.totals-fault.result 0 (Accepted a.formed) c.if1.false
-    ∙ ap (λ (n : ℕ). failed_or n 0 (Accepted a.formed)) t.totals-fault.ensures
+    faulty t.totals_fault-number.result 0 (Accepted a.formed) c.if-number-eq0.false
+    ∙ ap (λ (n : ℕ). failed_or n 0 (Accepted a.formed)) t.totals_fault-number.ensures
 
 pub compare_spec : {M : Type 1} → statement M
 compare_spec = tie.close (tie.spec totals-fault-requires returns returns-2)

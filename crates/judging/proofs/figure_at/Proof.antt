@@ -9,28 +9,28 @@ use Rattle.judging.proofs.figure_at.Tie as tie
 figure-requires : tie.Need-figure-requires
 figure-requires c κs = tt
 
-figure-requires-2 : tie.Need-figure-requires-2
+figure-requires-2 : tie.Need-figure-requires-in-1
 figure-requires-2 c κs = tt
 
-figure-requires-3 : tie.Need-figure-requires-3
+figure-requires-3 : tie.Need-figure-requires-in-2
 figure-requires-3 c κs = tt
 
-figure-requires-4 : tie.Need-figure-requires-4
+figure-requires-4 : tie.Need-figure-requires-in_default
 figure-requires-4 c κs = tt
 
-returns : tie.Need-returns
-returns c = c.figure.ensures ∙ sym (ap figure_at c.before.match.keys1)
+returns : tie.Need-returns-in-0
+returns c = c.figure.ensures ∙ sym (ap figure_at c.before.in-0.is)
 
-returns-2 : tie.Need-returns-2
-returns-2 c = c.figure2.ensures ∙ sym (ap figure_at c.before.match.keys2)
+returns-2 : tie.Need-returns-in-1
+returns-2 c = c.figure-in-1.ensures ∙ sym (ap figure_at c.before.in-1.is)
 
-returns-3 : tie.Need-returns-3
-returns-3 c = c.figure3.ensures ∙ sym (ap figure_at c.before.match.keys3)
+returns-3 : tie.Need-returns-in-2
+returns-3 c = c.figure-in-2.ensures ∙ sym (ap figure_at c.before.in-2.is)
 
-returns-4 : tie.Need-returns-4
+returns-4 : tie.Need-returns-in_default
 returns-4 c =
     let m = c.before in
-    c.figure4.ensures ∙ last m.before.args.j (λ e. m.match.rest.0.0.1 e) (λ e. m.match.rest.0.1 e) (λ e. m.match.rest.1 e)
+    c.figure-in_default.ensures ∙ last m.before.args.j (λ e. m.in_default.in_default-own.rest.0.0.1 e) (λ e. m.in_default.in_default-own.rest.0.1 e) (λ e. m.in_default.in_default-own.rest.1 e)
   where
     last : (j : ℕ) → (j ≡ 0 → ⊥) → (j ≡ 1 → ⊥) → (j ≡ 2 → ⊥) → figure_of Co2 ≡ figure_at j
     last zero a b d = absurd (a refl)

@@ -16,19 +16,19 @@ joined found own rest e = ap (λ (n : ℕ). n or_else rest) e ∙ go found
     go zero = refl
     go (suc found) = refl
 
-first-fault-requires : tie.Need-first-fault-requires
+first-fault-requires : tie.Need-first_fault-so2-requires
 first-fault-requires c κs = search rules
 
-first-fault-requires-2 : tie.Need-first-fault-requires-2
+first-fault-requires-2 : tie.Need-first_fault-co2-requires
 first-fault-requires-2 c κs = search rules
 
-first-fault-requires-3 : tie.Need-first-fault-requires-3
+first-fault-requires-3 : tie.Need-first_fault-heat-requires
 first-fault-requires-3 c κs = search rules
 
-first-fault-requires-4 : tie.Need-first-fault-requires-4
+first-fault-requires-4 : tie.Need-first_fault-nox-requires
 first-fault-requires-4 c κs = search rules
 
-first-fault-requires-5 : tie.Need-first-fault-requires-5
+first-fault-requires-5 : tie.Need-first_fault-requires
 first-fault-requires-5 c κs = search rules
 
 returns : tie.Need-returns
@@ -41,12 +41,12 @@ returns c =
     let f = so2.before.args.formed in
     let s = so2.before.args.stated in
     let behind : ℕ → ℕ = λ n. first_failing (said_same f s) (λ (t : Stated). t.number) (drop n stated_totals) in
-    sym (or_none c.first-fault5.result 0 refl)
-    ∙ joined nox.first-fault4.result _ (behind 5) c.first-fault5.ensures
-    ∙ joined heat.first-fault3.result _ (behind 4) nox.first-fault4.ensures
-    ∙ joined co2.first-fault2.result _ (behind 3) heat.first-fault3.ensures
-    ∙ joined so2.first_fault_lem.result _ (behind 2) co2.first-fault2.ensures
-    ∙ joined 0 _ (behind 1) so2.first_fault_lem.ensures
+    sym (or_none c.first_fault.result 0 refl)
+    ∙ joined nox.first_fault-nox.result _ (behind 5) c.first_fault.ensures
+    ∙ joined heat.first_fault-heat.result _ (behind 4) nox.first_fault-nox.ensures
+    ∙ joined co2.first_fault-co2.result _ (behind 3) heat.first_fault-heat.ensures
+    ∙ joined so2.first_fault-so2.result _ (behind 2) co2.first_fault-co2.ensures
+    ∙ joined 0 _ (behind 1) so2.first_fault-so2.ensures
 
 pub totals_fault_spec : {M : Type 1} → statement M
 totals_fault_spec =

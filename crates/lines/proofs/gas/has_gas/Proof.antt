@@ -8,14 +8,11 @@ use Rattle.lines.proofs.gas.has_gas.Tie as tie
 sub-same-bytes : tie.Need-slice_bounds-same_bytes-count
 sub-same-bytes c = search rules
 
-part-same-bytes-start : tie.Need-slice-bounds-same-bytes-start
+part-same-bytes-start : tie.Need-slice_bounds-same_bytes-start
 part-same-bytes-start c = search rules
 
-part-same-bytes-end : tie.Need-slice-bounds-same-bytes-end
+part-same-bytes-end : tie.Need-slice_bounds-same_bytes-end
 part-same-bytes-end c = search rules
-
-slice-aggregate-same-bytes : tie.Need-slice-aggregate-same-bytes
-slice-aggregate-same-bytes c = search rules
 
 same-bytes-requires : tie.Need-same_bytes-requires
 same-bytes-requires c κs = search rules
@@ -31,6 +28,5 @@ has_gas_spec =
     sub-same-bytes
     part-same-bytes-start
     part-same-bytes-end
-    slice-aggregate-same-bytes
     same-bytes-requires
     returns)

@@ -16,20 +16,20 @@ use Rattle.lines.proofs.picture.is_operating.Statement.{statement}
 use Rattle.lines.proofs.picture.is_operating.Tie as tie
 
 -- the places of the code, each from the next one below it
-abbrev start : tie.After-line → tie.Start
-start c = c.before.before.before.before.before.before
+abbrev start : tie.Else-rest-lt-OPERATION_LENGTH → tie.Start
+start c = c.before.before.before.before.before
 
-abbrev dated : tie.Else-date_fault-ne0 → tie.After-line
+abbrev dated : tie.Else-date_fault-ne0 → tie.Else-rest-lt-OPERATION_LENGTH
 dated c = c.before.before
 
 abbrev fitting : tie.Else-not-is_pictured → tie.Else-date_fault-ne0
 fitting c = c.before.before
 
-abbrev rest : tie.After-line → List ℕ
+abbrev rest : tie.Else-rest-lt-OPERATION_LENGTH → List ℕ
 rest c = (start c).args.rest.now
 
-long : (c : tie.After-line) → length (take (length_of Operation) (rest c)) ≡ length_of Operation
-long c = length-take-le (length_of Operation) (rest c) (omega (arith, c.before.if-rest-lt-OPERATION_LENGTH.false))
+long : (c : tie.Else-rest-lt-OPERATION_LENGTH) → length (take (length_of Operation) (rest c)) ≡ length_of Operation
+long c = length-take-le (length_of Operation) (rest c) (omega (arith, c.if-rest-lt-OPERATION_LENGTH.false))
 
 returns : tie.Need-returns-then-rest-lt-OPERATION_LENGTH
 returns c e = absurd (false≢true e)

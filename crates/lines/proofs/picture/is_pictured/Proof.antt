@@ -19,14 +19,14 @@ use Rattle.lines.proofs.picture.is_pictured.Statement.{statement}
 use Rattle.lines.proofs.picture.is_pictured.Tie as tie
 
 -- the places of the code, each from the next one below it
-abbrev start : tie.After-fits-arg → tie.Start
-start c = c.before.before.before.before.before.before.before
+abbrev start : tie.Else-rest-long-ne10 → tie.Start
+start c = c.before.before.before.before.before.before
 
-abbrev asked : tie.Else-not-fits → tie.After-fits-arg
+abbrev asked : tie.Else-not-fits → tie.Else-rest-long-ne10
 asked c = c.before.before
 
 -- the part of the picture that its line has
-module _ (c : tie.After-fits-arg) where
+module _ (c : tie.Else-rest-long-ne10) where
   abbrev t : RecordType
   t = (start c).args.t
 
@@ -40,7 +40,7 @@ module _ (c : tie.After-fits-arg) where
   more = omega (arith, (start c).requires.1)
 
   end : get_or rest (length_of t) 0 ≡ 10
-  end = ap (λ (n : ℕ). get_or rest n 0) (sym (start c).requires.1) ∙ c.before.if-rest-long-ne10.false
+  end = ap (λ (n : ℕ). get_or rest n 0) (sym (start c).requires.1) ∙ c.if-rest-long-ne10.false
 
 returns : tie.Need-returns-then-rest-long
 returns c e = absurd (false≢true e)
@@ -86,7 +86,7 @@ unfolding columns
 returns-4 c =
     let d = c.before.before.before in
     let k = asked d in
-    let f : Fits (picture_of (t k)) (rest k) = rw (taken k) at (d.before.fits2.ensures (not-false _ d.if-not-fits.false-raw)) in
+    let f : Fits (picture_of (t k)) (rest k) = rw (taken k) at (d.before.fits.ensures (not-false _ d.if-not-fits.false-raw)) in
     λ e. pictured (t k) _ (rest k) (more k) (end k) f (sym c.same_bytes.ensures ∙ e)
 
 pub is_pictured_spec : {M : Type 1} → statement M
