@@ -14,17 +14,17 @@ use Rattle.reading.proofs.read.Statement.{statement}
 use Rattle.reading.proofs.read.Tie as tie
 
 -- the places of the code, each from the next one below it
-abbrev start : tie.After-shared-slice-known2 → tie.Start
+abbrev start : tie.After-shared_slice_known-2-1 → tie.Start
 start c = c.before.before.before
 
-abbrev faulty : tie.After-known-told → tie.After-facility-line
-faulty c = c.before.before.before
+abbrev faulty : tie.In-Faulty → tie.After-facility_line-first
+faulty c = c.before
 
-abbrev passed : tie.After-known-told2 → tie.After-facility-line
-passed c = c.before.before.before
+abbrev passed : tie.In-Of → tie.After-facility_line-first
+passed c = c.before
 
 -- the file ends with byte 10
-module _ (c : tie.Else2) where
+module _ (c : tie.Else-file-size-ne10) where
   abbrev file : List ℕ
   file = (start c.before).args.file.now
 
@@ -32,57 +32,57 @@ module _ (c : tie.Else2) where
   some = omega arith
 
   walked : read_of file ≡ walk (lines file)
-  walked = read_ended file some c.if2.false
+  walked = read_ended file some c.if-file-size-ne10.false
 
 -- what its facility line says
-said : (c : tie.After-facility-line) (l : FacilityLine) → c.facility-line.result ≡ l → facility_line (first_line (file c.before)) ≡ l
-said c l e = sym c.facility-line.ensures ∙ e
+said : (c : tie.After-facility_line-first) (l : FacilityLine) → c.facility_line-first.result ≡ l → facility_line (first_line (file c.before)) ≡ l
+said c l e = sym c.facility_line-first.ensures ∙ e
 
 stopped-requires : tie.Need-stopped-requires
 stopped-requires c κs = search rules
 
-returns : tie.Need-returns
+returns : tie.Need-returns-then-size-eq0
 returns c = c.stopped.ensures ∙ sym (read_empty _ (omega arith))
 
-sub-if2 : tie.Need-overflow-sub-if2
+sub-if2 : tie.Need-overflow_sub-size
 sub-if2 c = search rules
 
-shared-slice-read-if2 : tie.Need-shared-slice-read-if2
+shared-slice-read-if2 : tie.Need-bounds-file-size
 shared-slice-read-if2 c = search rules
 
-stopped-requires-2 : tie.Need-stopped-requires-2
+stopped-requires-2 : tie.Need-stopped-requires-then-file-size-ne10
 stopped-requires-2 c κs = search rules
 
-returns-2 : tie.Need-returns-2
-returns-2 c = c.stopped2.ensures ∙ sym (read_open (start c.before.before).args.file.now (omega arith) (λ e. omega arith))
+returns-2 : tie.Need-returns-then-file-size-ne10
+returns-2 c = c.stopped-then-file-size-ne10.ensures ∙ sym (read_open (start c.before.before).args.file.now (omega arith) (λ e. omega arith))
 
-facility-line-requires : tie.Need-facility-line-requires
+facility-line-requires : tie.Need-facility_line-first-requires
 facility-line-requires c κs = search rules
 
-enum-known-first : tie.Need-enum-known-first
+enum-known-first : tie.Need-enum_known-first
 enum-known-first c = search rules
 
-stopped-requires-3 : tie.Need-stopped-requires-3
+stopped-requires-3 : tie.Need-stopped-requires-in-Faulty
 stopped-requires-3 c κs = search rules
 
-enum-known-first-2 : tie.Need-enum-known-first-2
+enum-known-first-2 : tie.Need-enum_known-first-in-Of-1
 enum-known-first-2 c = search rules
 
-walk-hours-requires : tie.Need-walk-hours-requires
+walk-hours-requires : tie.Need-walk_hours-requires
 walk-hours-requires c κs =
     let f = (passed c).before in
-    let e = said (passed c) _ c.before.first2.given.1 in
+    let e = said (passed c) _ c.in-Of.is in
     (facility_room (file f) (some f) _ e, quarter_named (file f) (some f) _ e)
 
-returns-3 : tie.Need-returns-3
+returns-3 : tie.Need-returns-in-Faulty
 returns-3 c =
     let l = faulty c.before in
-    c.stopped3.ensures ∙ walk_found _ (some l.before) _ (said l _ c.before.before.first.given.1) ∙ sym (walked l.before)
+    c.stopped-in-Faulty.ensures ∙ walk_found _ (some l.before) _ (said l _ c.before.in-Faulty.is) ∙ sym (walked l.before)
 
-returns-4 : tie.Need-returns-4
+returns-4 : tie.Need-returns-in-Of
 returns-4 c =
     let l = passed c.before in
-    c.walk-hours.ensures ∙ walk_passed _ (some l.before) _ (said l _ c.before.before.first2.given.1) ∙ sym (walked l.before)
+    c.walk_hours.ensures ∙ walk_passed _ (some l.before) _ (said l _ c.before.in-Of.is) ∙ sym (walked l.before)
 
 pub read_spec : {M : Type 1} → statement M
 read_spec =

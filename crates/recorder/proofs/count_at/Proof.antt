@@ -14,10 +14,10 @@ use Rattle.recorder.proofs.count_at.Statement.{statement}
 use Rattle.recorder.proofs.count_at.Tie as tie
 
 -- the place where the significand has fewer than `gone` binary places
-abbrev few : tie.After-struct-known5 → tie.Else1
+abbrev few : tie.After-struct_known-5-1 → tie.Else-places-u
 few c = c.before.before.before
 
-abbrev start : tie.Else1 → tie.Start
+abbrev start : tie.Else-places-u → tie.Start
 start c = c.before.before.before
 
 abbrev p : tie.Start → Parts
@@ -45,36 +45,36 @@ shifted c = count_shifted (p c).significand (p c).exponent float_scale (u c).num
 upper_room : (c : tie.Start) → (u c).den * (p c).significand ≤ 10 * 2 ^ 53
 upper_room c = mul-le-mul (room c).den_most (le_of_lt (short c))
 
-lower_room : (c : tie.Else1) → 2 * ((u (start c)).num * 2 ^ places (start c)) ≤ 2 ^ 63
-lower_room c = let s = start c in divisor_room (places s) (u s).gone (u s).num (room s).fits c.if1.false
+lower_room : (c : tie.Else-places-u) → 2 * ((u (start c)).num * 2 ^ places (start c)) ≤ 2 ^ 63
+lower_room c = let s = start c in divisor_room (places s) (u s).gone (u s).num (room s).fits c.if-places-u.false
 
 divisor_least : (c : tie.Start) → 0 < (u c).num * 2 ^ places c
 divisor_least c = mul-pos (room c).num_least (pow_pos (places c))
 
-sub-places : tie.Need-overflow-sub-places
+sub-places : tie.Need-overflow_sub-places
 sub-places c = search rules
 
-returns : tie.Need-returns
+returns : tie.Need-returns-then-places-u
 returns c =
     let s = c.before.before.before in (
-      sym (count_gone (p s).significand (places s) (u s).gone (u s).num (u s).den (room s).den_least (short s) (room s).vanishes c.if1.true)
+      sym (count_gone (p s).significand (places s) (u s).gone (u s).num (u s).den (room s).den_least (short s) (room s).vanishes c.if-places-u.true)
           ∙ shifted s,
       omega arith,
     )
 
-mul-half-up : tie.Need-overflow-mul-half-up
+mul-half-up : tie.Need-overflow_mul-u
 mul-half-up c = omega (arith, upper_room (start c.before.before))
 
-shl-half-up : tie.Need-overflow-shl-half-up
+shl-half-up : tie.Need-overflow_shl-u
 shl-half-up c = search rules
 
-half-up-requires : tie.Need-half-up-requires
+half-up-requires : tie.Need-half_up-requires
 half-up-requires c κs =
     let s = start (few c) in
     let whole = divisor_whole (places s) (u s).num (lower_room (few c)) in
     rw whole (divisor_least s, omega (arith, upper_room s, lower_room (few c)))
 
-returns-2 : tie.Need-returns-2
+returns-2 : tie.Need-returns
 returns-2 c =
     let e = few c.before in
     let s = start e in

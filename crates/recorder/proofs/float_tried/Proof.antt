@@ -20,110 +20,110 @@ use Rattle.recorder.proofs.float_tried.Statement.{statement}
 use Rattle.recorder.proofs.float_tried.Tie as tie
 
 -- the places of the code, each from the next one below it
-abbrev start : tie.After-parts-of → tie.Start
+abbrev start : tie.After-parts_of-p → tie.Start
 start c = c.before
 
-abbrev parted : tie.Else1 → tie.After-parts-of
+abbrev parted : tie.Else-not-p → tie.After-parts_of-p
 parted c = c.before.before
 
-abbrev usable-there : tie.Else2 → tie.Else1
+abbrev usable-there : tie.Else-p-ge-SCALE → tie.Else-not-p
 usable-there c = c.before.before
 
-abbrev small : tie.After-channel-row → tie.Else2
+abbrev small : tie.After-channel_row-row → tie.Else-p-ge-SCALE
 small c = c.before
 
-abbrev entry : tie.Else2 → tie.Start
+abbrev entry : tie.Else-p-ge-SCALE → tie.Start
 entry c = start (parted (usable-there c))
 
-abbrev channel : tie.Else2 → Channel
+abbrev channel : tie.Else-p-ge-SCALE → Channel
 channel c = (entry c).args.c
 
-abbrev x : tie.Else2 → Float
+abbrev x : tie.Else-p-ge-SCALE → Float
 x c = (entry c).args.x
 
 -- what is known there
-is_usable : (c : tie.Else1) → usable (start (parted c)).args.x ≡ true
-is_usable c = let p = parted c in sym p.parts-of.ensures.told ∙ not-false _ c.if1.false
+is_usable : (c : tie.Else-not-p) → usable (start (parted c)).args.x ≡ true
+is_usable c = let p = parted c in sym p.parts_of-p.ensures.told ∙ not-false _ c.if-not-p.false
 
-counted : (c : tie.After-count-at) → c.count_at.result ≡ units_in (recording_unit (channel (small c.before))) (x (small c.before))
+counted : (c : tie.After-count_at-units) → c.count_at-units.result ≡ units_in (recording_unit (channel (small c.before.before))) (x (small c.before.before))
 counted c =
-    let r = c.before in
+    let r = c.before.before in
     let e = small r in
-    let p = (parted (usable-there e)).parts-of in
-    c.count_at.ensures.0
-    ∙ ap (λ (w : ChannelRow). parts_count p.result w.unit) r.channel-row.ensures
+    let p = (parted (usable-there e)).parts_of-p in
+    c.count_at-units.ensures.0
+    ∙ ap (λ (w : ChannelRow). parts_count p.result w.unit) r.channel_row-row.ensures
     ∙ sym (count_exact (recording_unit (channel e)) (x e) (p.result.significand * 2 ^ p.result.exponent) (2 ^ float_scale) (pow_pos float_scale)
     (p.ensures.exact (is_usable (usable-there e))))
 
 -- the number tried is that of the float's columns, and it fits
-number : (c : tie.After-count-at) →
-    c.before.channel-row.result.column.step * c.count_at.result ≡ column_number (channel (small c.before)) (x (small c.before))
-number c = ap₂ ◌*◌ (ap (λ (w : ChannelRow). w.column.step) c.before.channel-row.ensures) (counted c)
+number : (c : tie.After-count_at-units) →
+    c.before.before.channel_row-row.result.column.step * c.count_at-units.result ≡ column_number (channel (small c.before.before)) (x (small c.before.before))
+number c = ap₂ ◌*◌ (ap (λ (w : ChannelRow). w.column.step) c.before.before.channel_row-row.ensures) (counted c)
 
-fits : (c : tie.After-count-at) → c.before.channel-row.result.column.step * c.count_at.result < 2 ^ 64
+fits : (c : tie.After-count_at-units) → c.before.before.channel_row-row.result.column.step * c.count_at-units.result < 2 ^ 64
 fits c =
-    let r = c.before in
-    let most : c.count_at.result ≤ (recording_unit (channel (small r))).den * 2 ^ 53 = rw r.channel-row.ensures at c.count_at.ensures.1 in
-    rw r.channel-row.ensures (number_room (channel (small r)) c.count_at.result most)
+    let r = c.before.before in
+    let most : c.count_at-units.result ≤ (recording_unit (channel (small r))).den * 2 ^ 53 = rw r.channel_row-row.ensures at c.count_at-units.ensures.1 in
+    rw r.channel_row-row.ensures (number_room (channel (small r)) c.count_at-units.result most)
 
-tested : (c : tie.After-in-range) →
-    let e = small c.before.before.before in c.in_range_lem.result ≡ in_range (column_of (channel e)) (column_number (channel e) (x e))
+tested : (c : tie.After-in_range) →
+    let e = small c.before.before.before.before.before in c.in_range.result ≡ in_range (column_of (channel e)) (column_number (channel e) (x e))
 tested c =
-    let n = c.before.before in
-    c.in_range_lem.ensures ∙ ap₂ in_range (ap (λ (w : ChannelRow). w.column) n.before.channel-row.ensures) (number n)
+    let n = c.before.before.before in
+    c.in_range.ensures ∙ ap₂ in_range (ap (λ (w : ChannelRow). w.column) n.before.before.channel_row-row.ensures) (number n)
 
-parts-of-requires : tie.Need-parts-of-requires
+parts-of-requires : tie.Need-parts_of-p-requires
 parts-of-requires c κs = search rules
 
-returns : tie.Need-returns
+returns : tie.Need-returns-then-not-p
 returns c =
     let p = c.before.before in
     let s = start p in
-    let e = sym p.parts-of.ensures.told ∙ not-true _ c.if1.true in
+    let e = sym p.parts_of-p.ensures.told ∙ not-true _ c.if-not-p.true in
     record { fault = fault_45 s.args.c s.args.x e; held = omega arith; units = λ z. absurd (omega arith) }
 
-returns-2 : tie.Need-returns-2
+returns-2 : tie.Need-returns-then-p-ge-SCALE
 returns-2 c =
     let u = c.before.before in
     let p = parted u in
     let s = start p in
     let e = is_usable u in
     record {
-      fault = fault_46 s.args.c s.args.x e (beyond s.args.c s.args.x p.parts-of.result p.parts-of.ensures e c.if2.true);
+      fault = fault_46 s.args.c s.args.x e (beyond s.args.c s.args.x p.parts_of-p.result p.parts_of-p.ensures e c.if-p-ge-SCALE.true);
       held = omega arith;
       units = λ z. absurd (omega arith);
     }
 
-channel-row-requires : tie.Need-channel-row-requires
+channel-row-requires : tie.Need-channel_row-row-requires
 channel-row-requires c κs = search rules
 
-count-at-requires : tie.Need-count-at-requires
+count-at-requires : tie.Need-count_at-units-requires
 count-at-requires c κs =
-    let e = small c in
-    ((parted (usable-there e)).parts-of.ensures.short, e.if2.left, rw c.channel-row.ensures (row_room (channel e)))
+    let e = small c.before in
+    ((parted (usable-there e)).parts_of-p.ensures.short, e.if-p-ge-SCALE.false, rw c.before.channel_row-row.ensures (row_room (channel e)))
 
-mul-in-range : tie.Need-overflow-mul-in-range
-mul-in-range c = record { fits = fits c.before }
+mul-in-range : tie.Need-overflow_mul-row
+mul-in-range c = record { fits = fits c.before.before }
 
-in-range-requires : tie.Need-in-range-requires
+in-range-requires : tie.Need-in_range-requires
 in-range-requires c κs = search rules
 
-returns-3 : tie.Need-returns-3
+returns-3 : tie.Need-returns-then-not-in_range
 returns-3 c =
     let t = c.before in
-    let e = small t.before.before.before in
+    let e = small t.before.before.before.before.before in
     record {
-      fault = fault_46 (channel e) (x e) (is_usable (usable-there e)) (sym (tested t) ∙ not-true _ c.if3.true);
+      fault = fault_46 (channel e) (x e) (is_usable (usable-there e)) (sym (tested t) ∙ not-true _ c.if-not-in_range.true-raw);
       held = omega arith;
       units = λ z. absurd (omega arith);
     }
 
-returns-4 : tie.Need-returns-4
+returns-4 : tie.Need-returns
 returns-4 c =
     let t = c.before in
-    let n = t.before.before in
-    let e = small n.before in
-    let i = sym (tested t) ∙ not-false _ c.if3.false in
+    let n = t.before.before.before in
+    let e = small n.before.before in
+    let i = sym (tested t) ∙ not-false _ c.if-not-in_range.false-raw in
     record {
       fault = fault_none (channel e) (x e) (is_usable (usable-there e)) i;
       held = rw (counted n) (most_held (channel e) _ (in_range_true (column_of (channel e)) (column_number (channel e) (x e)) i).1);

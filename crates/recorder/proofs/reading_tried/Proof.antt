@@ -7,37 +7,37 @@ use Rattle.recorder.specs.declared.RecorderReading.{RecorderReading}
 use Rattle.recorder.proofs.reading_tried.Statement.{statement}
 use Rattle.recorder.proofs.reading_tried.Tie as tie
 
-enum-known-reading : tie.Need-enum-known-reading
+enum-known-reading : tie.Need-enum_known-reading
 enum-known-reading c = search rules
 
-float-tried-requires : tie.Need-float-tried-requires
+float-tried-requires : tie.Need-float_tried-requires
 float-tried-requires c κs = search rules
 
-enum-known-reading-2 : tie.Need-enum-known-reading-2
+enum-known-reading-2 : tie.Need-enum_known-reading-in-Substituted-1
 enum-known-reading-2 c = search rules
 
-float-tried-requires-2 : tie.Need-float-tried-requires-2
+float-tried-requires-2 : tie.Need-float_tried-requires-in-Substituted
 float-tried-requires-2 c κs = search rules
 
-enum_told : tie.Need-enum-told
+enum_told : tie.Need-enum_told-1
 enum_told c = search rules
 
-returns : tie.Need-returns
+returns : tie.Need-returns-in-Measured
 returns c =
-    let k = c.before.before in
-    let a = k.before.before.args in
-    subst (λ (g : RecorderReading). Tries a.c g c.float-tried.result) (sym k.reading.given.1)
-    (measured_tries a.c _ c.float-tried.result c.float-tried.ensures)
+    let k = c.before in
+    let a = k.before.args in
+    subst (λ (g : RecorderReading). Tries a.c g c.float_tried.result) (sym k.in-Measured.is)
+    (measured_tries a.c _ c.float_tried.result c.float_tried.ensures)
 
-returns-2 : tie.Need-returns-2
+returns-2 : tie.Need-returns-in-Substituted
 returns-2 c =
-    let k = c.before.before in
-    let a = k.before.before.args in
-    subst (λ (g : RecorderReading). Tries a.c g c.float-tried2.result) (sym k.reading2.given.1)
-    (substituted_tries a.c _ c.float-tried2.result c.float-tried2.ensures)
+    let k = c.before in
+    let a = k.before.args in
+    subst (λ (g : RecorderReading). Tries a.c g c.float_tried-in-Substituted.result) (sym k.in-Substituted.is)
+    (substituted_tries a.c _ c.float_tried-in-Substituted.result c.float_tried-in-Substituted.ensures)
 
-returns-3 : tie.Need-returns-3
-returns-3 c = rw c.enum_told.given.1 (absent_tries c.before.before.args.c)
+returns-3 : tie.Need-returns-in-Absent
+returns-3 c = rw c.in-Absent.is (absent_tries c.before.args.c)
 
 pub reading_tried_spec : {M : Type 1} → statement M
 reading_tried_spec =

@@ -4,16 +4,16 @@ use borrow.Author.Rules.{rules}
 use Rattle.records.proofs.facility_record.Statement.{statement}
 use Rattle.records.proofs.facility_record.Tie as tie
 
-write-heading-requires : tie.Need-write-heading-requires
+write-heading-requires : tie.Need-write_heading-requires
 write-heading-requires c κs = search rules
 
-write-digits-requires : tie.Need-write-digits-requires
+write-digits-requires : tie.Need-write_digits-requires
 write-digits-requires c κs = search rules
 
-write-digits-requires-2 : tie.Need-write-digits-requires-2
+write-digits-requires-2 : tie.Need-write_digits-requires-2
 write-digits-requires-2 c κs = search rules
 
-same_length : tie.Need-same-length
+same_length : tie.Need-shape_of-line
 same_length c = search rules
 
 returns : tie.Need-returns
@@ -22,7 +22,7 @@ returns c =
     let q = c.before.before in
     let y = q.before.before.before.before in
     let h = y.before.before.before.before in
-    rw (q.write-digits2.ensures, y.write-digits.ensures, h.write-heading.ensures)
+    rw (q.write_digits-2.ensures, y.write_digits.ensures, h.write_heading.ensures)
 
 pub facility_record_spec : {M : Type 1} → statement M
 facility_record_spec =

@@ -9,25 +9,25 @@ use borrow.Author.Rules.{rules}
 use Rattle.records.proofs.write_facility.Statement.{statement}
 use Rattle.records.proofs.write_facility.Tie as tie
 
-line-length-requires : tie.Need-line-length-requires
+line-length-requires : tie.Need-line_length-end-requires
 line-length-requires c κs = search rules
 
-sub-facility-record : tie.Need-overflow-sub-facility-record
+sub-facility-record : tie.Need-slice_bounds-facility_record-count
 sub-facility-record c = search rules
 
-part-facility-record-start : tie.Need-slice-bounds-facility-record-start
+part-facility-record-start : tie.Need-slice_bounds-facility_record-start
 part-facility-record-start c = search rules
 
-part-facility-record-end : tie.Need-slice-bounds-facility-record-end
+part-facility-record-end : tie.Need-slice_bounds-facility_record-end
 part-facility-record-end c = search rules
 
-facility-record-requires : tie.Need-facility-record-requires
+facility-record-requires : tie.Need-facility_record-requires
 facility-record-requires c κs = search rules
 
-slice-write-buffer : tie.Need-slice-write-buffer
+slice-write-buffer : tie.Need-bounds-buffer-end
 slice-write-buffer c = search rules
 
-same_length : tie.Need-same-length
+same_length : tie.Need-shape_of-buffer
 same_length c = search rules
 
 returns : tie.Need-returns
@@ -35,7 +35,7 @@ returns c =
     let r = c.before.before in
     let l = r.before.before in
     let s = l.before.before.before in
-    rw (r.facility-record.ensures, l.line_length_lem.ensures.0)
+    rw (r.facility_record.ensures, l.line_length-end.ensures.0)
     (line_put 0 (length_of Facility) s.args.buffer.now (facility_record s.args.year s.args.quarter s.args.name.now)
     (facility_length s.args.name.now s.requires.1 s.args.year s.args.quarter) (omega arith))
 

@@ -12,42 +12,42 @@ use Rattle.records.proofs.write_heading.Statement.{statement}
 use Rattle.records.proofs.write_heading.Tie as tie
 
 -- the places of the code, each from the next one below it
-abbrev start : tie.After-fill-with → tie.Start
+abbrev start : tie.After-fill_with → tie.Start
 start c = c.before.before.before.before
 
-abbrev filled : tie.After-type-code → tie.After-fill-with
+abbrev filled : tie.After-type_code → tie.After-fill_with
 filled c = c.before.before.before.before
 
-abbrev typed : tie.After-write-bytes-arg → tie.After-write-digits
+abbrev typed : tie.After-write_bytes-arg-1 → tie.After-write_digits
 typed c = c.before.before.before
 
 -- the blank line has the type's length
-blank : (c : tie.After-fill-with) → length c.fill-with.new.0 ≡ length_of (start c).args.t
-blank c = c.fill-with.auto.0 ∙ (start c).requires.0
+blank : (c : tie.After-fill_with) → length c.fill_with.new.part ≡ length_of (start c).args.t
+blank c = c.fill_with.auto.part ∙ (start c).requires.0
 
 -- the type stands in it
-stands : (c : tie.After-write-digits) →
-    let f = filled c.before in c.write-digits.new.0 ≡ put type_start (type_digits (start f).args.t) f.fill-with.last.0
-stands c = rw c.before.type-code.ensures at c.write-digits.ensures
+stands : (c : tie.After-write_digits) →
+    let f = filled c.before in c.write_digits.new.line ≡ put type_start (type_digits (start f).args.t) f.fill_with.new.part
+stands c = rw c.before.type_code.ensures at c.write_digits.ensures
 
-fill-with-requires : tie.Need-fill-with-requires
+fill-with-requires : tie.Need-fill_with-requires
 fill-with-requires c κs = search rules
 
-type-code-requires : tie.Need-type-code-requires
+type-code-requires : tie.Need-type_code-requires
 type-code-requires c κs = search rules
 
-write-digits-requires : tie.Need-write-digits-requires
+write-digits-requires : tie.Need-write_digits-requires
 write-digits-requires c κs =
     let f = filled c in
     omega (arith, blank f, length_least (start f).args.t)
 
-write-bytes-requires : tie.Need-write-bytes-requires
+write-bytes-requires : tie.Need-write_bytes-requires
 write-bytes-requires c κs =
     let w = typed c in
     let f = filled w.before in
-    omega (arith, w.write-digits.kept.0, blank f, length_least (start f).args.t)
+    omega (arith, w.write_digits.auto.line, blank f, length_least (start f).args.t)
 
-same_length : tie.Need-same-length
+same_length : tie.Need-shape_of-line
 same_length c = search rules
 
 returns : tie.Need-returns
@@ -56,7 +56,7 @@ returns c =
     let n = c.before.before in
     let w = typed n.before in
     let f = filled w.before in
-    n.write_bytes.ensures ∙ ap (put _ _) (stands w ∙ ap (put _ _) (f.fill-with.ensures ∙ ap (λ (long : ℕ). replicate long 32) (start f).pre.0))
+    n.write_bytes.ensures ∙ ap (put _ _) (stands w ∙ ap (put _ _) (f.fill_with.ensures ∙ ap (λ (long : ℕ). replicate long 32) (start f).requires.0))
 
 pub write_heading_spec : {M : Type 1} → statement M
 write_heading_spec = tie.close (tie.spec fill-with-requires type-code-requires write-digits-requires write-bytes-requires same_length returns)

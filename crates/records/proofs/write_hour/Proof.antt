@@ -17,10 +17,10 @@ use Rattle.records.proofs.write_hour.Statement.{statement}
 use Rattle.records.proofs.write_hour.Tie as tie
 
 -- the places of the code, each from the next one below it
-abbrev start : tie.After-offset-of → tie.Start
+abbrev start : tie.After-offset_of-at → tie.Start
 start c = c.before.before.before
 
-abbrev sized : tie.After-hour-record → tie.After-line-length
+abbrev sized : tie.After-hour_record → tie.After-line_length
 sized c = c.before.before
 
 -- the line lies in the buffer
@@ -31,34 +31,34 @@ inside c =
     omega (arith, line_inside x.s x.t x.k (dated_below x.t c.requires.1 x.s x.k f.rank f.listed), f.room)
 
 -- where the line ends
-ends : (c : tie.After-line-length) → c.before.offset-of.result + c.line_length_lem.result < length (start c.before).args.buffer.now
-ends c = omega (arith, c.before.offset-of.ensures, c.line_length_lem.ensures.0, inside (start c.before))
+ends : (c : tie.After-line_length) → c.before.offset_of-at.result + c.line_length.result < length (start c.before).args.buffer.now
+ends c = omega (arith, c.before.offset_of-at.ensures, c.line_length.ensures.0, inside (start c.before))
 
-offset-of-requires : tie.Need-offset-of-requires
+offset-of-requires : tie.Need-offset_of-at-requires
 offset-of-requires c κs = let f = c.before.before.requires.0 in (f.held, omega (arith, f.rank, f.held.hours))
 
-line-length-requires : tie.Need-line-length-requires
+line-length-requires : tie.Need-line_length-requires
 line-length-requires c κs = search rules
 
-add-end : tie.Need-overflow-add-end
+add-end : tie.Need-overflow_add-end
 add-end c = omega (arith, ends c)
 
-sub-hour-record : tie.Need-overflow-sub-hour-record
+sub-hour-record : tie.Need-slice_bounds-hour_record-count
 sub-hour-record c = search rules
 
-part-hour-record-start : tie.Need-slice-bounds-hour-record-start
+part-hour-record-start : tie.Need-slice_bounds-hour_record-start
 part-hour-record-start c = search rules
 
-part-hour-record-end : tie.Need-slice-bounds-hour-record-end
+part-hour-record-end : tie.Need-slice_bounds-hour_record-end
 part-hour-record-end c = omega (arith, ends c)
 
-hour-record-requires : tie.Need-hour-record-requires
+hour-record-requires : tie.Need-hour_record-requires
 hour-record-requires c κs = search rules
 
-slice-write-buffer : tie.Need-slice-write-buffer
-slice-write-buffer c = let r = c.before.before in omega (arith, ends (sized r), r.hour_record_lem.auto.0)
+slice-write-buffer : tie.Need-bounds-buffer-end
+slice-write-buffer c = let r = c.before.before in omega (arith, ends (sized r), r.hour_record.auto.line)
 
-same_length : tie.Need-same-length
+same_length : tie.Need-shape_of-buffer
 same_length c = search rules
 
 returns : tie.Need-returns
@@ -70,10 +70,10 @@ returns c =
     let x = s.args in
     let date = digits_of date_width x.date in
     let record-of-hour = dated_record x.name.now x.t date x.h in
-    let long = dated_length x.name.now s.pre.0.named x.t date x.h (digits_length date_width x.date) in
-    rw r.hour_record_lem.ensures
-    (line_put o.offset-of.result l.line_length_lem.result x.buffer.now record-of-hour (long ∙ sym l.line_length_lem.ensures.0) (ends l)
-    ∙ ap (λ (at : ℕ). put (at + 1) (ended record-of-hour) x.buffer.now) o.offset-of.ensures)
+    let long = dated_length x.name.now s.requires.0.named x.t date x.h (digits_length date_width x.date) in
+    rw r.hour_record.ensures
+    (line_put o.offset_of-at.result l.line_length.result x.buffer.now record-of-hour (long ∙ sym l.line_length.ensures.0) (ends l)
+    ∙ ap (λ (at : ℕ). put (at + 1) (ended record-of-hour) x.buffer.now) o.offset_of-at.ensures)
 
 pub write_hour_spec : {M : Type 1} → statement M
 write_hour_spec =

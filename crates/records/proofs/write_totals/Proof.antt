@@ -9,28 +9,28 @@ use borrow.Author.Rules.{rules}
 use Rattle.records.proofs.write_totals.Statement.{statement}
 use Rattle.records.proofs.write_totals.Tie as tie
 
-line-length-requires : tie.Need-line-length-requires
+line-length-requires : tie.Need-line_length-requires
 line-length-requires c κs = search rules
 
-add-end : tie.Need-overflow-add-end
+add-end : tie.Need-overflow_add-end
 add-end c = search rules
 
-sub-totals-record : tie.Need-overflow-sub-totals-record
+sub-totals-record : tie.Need-slice_bounds-totals_record-count
 sub-totals-record c = search rules
 
-part-totals-record-start : tie.Need-slice-bounds-totals-record-start
+part-totals-record-start : tie.Need-slice_bounds-totals_record-start
 part-totals-record-start c = search rules
 
-part-totals-record-end : tie.Need-slice-bounds-totals-record-end
+part-totals-record-end : tie.Need-slice_bounds-totals_record-end
 part-totals-record-end c = search rules
 
-totals-record-requires : tie.Need-totals-record-requires
+totals-record-requires : tie.Need-totals_record-requires
 totals-record-requires c κs = search rules
 
-slice-write-buffer : tie.Need-slice-write-buffer
+slice-write-buffer : tie.Need-bounds-buffer-end
 slice-write-buffer c = search rules
 
-same_length : tie.Need-same-length
+same_length : tie.Need-shape_of-buffer
 same_length c = search rules
 
 returns : tie.Need-returns
@@ -38,7 +38,7 @@ returns c =
     let r = c.before.before in
     let l = r.before.before in
     let s = l.before.before.before in
-    rw (r.totals-record.ensures, l.line_length_lem.ensures.0)
+    rw (r.totals_record.ensures, l.line_length.ensures.0)
     (line_put s.args.at (length_of QuarterTotals) s.args.buffer.now (totals_record s.args.name.now s.args.q)
     (totals_length s.args.name.now s.requires.1 s.args.q) (omega arith))
 

@@ -12,39 +12,39 @@ use Rattle.reading.proofs.walk.date_left.Statement.{statement}
 use Rattle.reading.proofs.walk.date_left.Tie as tie
 
 -- the places of the code, each from the next one below it
-abbrev start : tie.After-hour-text → tie.Start
+abbrev start : tie.After-hour_text-hour → tie.Start
 start c = c.before.before.before
 
-hour-text-requires : tie.Need-hour-text-requires
+hour-text-requires : tie.Need-hour_text-hour-requires
 hour-text-requires c κs = search rules
 
-sub-result : tie.Need-overflow-sub-result
+sub-result : tie.Need-slice_bounds-result-count
 sub-result c = search rules
 
-part-result-start : tie.Need-slice-bounds-result-start
+part-result-start : tie.Need-slice_bounds-result-start
 part-result-start c = search rules
 
-part-result-end : tie.Need-slice-bounds-result-end
+part-result-end : tie.Need-slice_bounds-result-end
 part-result-end c =
     let x = start c in
-    omega (arith, ap length c.hour-text.ensures, hour_long x.args.file.now x.args.n x.args.k x.pre c.before.if1.true)
+    omega (arith, ap length c.hour_text-hour.ensures, hour_long x.args.file.now x.args.n x.args.k x.requires c.before.if-k-n.true)
 
-returns : tie.Need-returns
+returns : tie.Need-returns-then-k-n
 unfolding columns
 returns c =
     let h = c.before in
     let x = (start h).args in
-    ap (date_on So2Concentration) h.hour-text.ensures ∙ sym (ap next_date (first_left x.file.now x.n x.k h.before.if1.true))
+    ap (date_on So2Concentration) h.hour_text-hour.ensures ∙ sym (ap next_date (first_left x.file.now x.n x.k h.before.if-k-n.true))
 
-slice-aggregate-result : tie.Need-slice-aggregate-result
+slice-aggregate-result : tie.Need-slice_bounds-result-end-2
 slice-aggregate-result c = search rules
 
-returns-2 : tie.Need-returns-2
+returns-2 : tie.Need-returns
 unfolding columns
 returns-2 c =
     let l = c.before in
-    let x = l.before.before.args in
-    sym (ap next_date (hour_lines_over x.file.now x.n x.k l.if1.false))
+    let x = l.before.args in
+    sym (ap next_date (hour_lines_over x.file.now x.n x.k l.if-k-n.false))
 
 pub date_left_spec : {M : Type 1} → statement M
 date_left_spec =

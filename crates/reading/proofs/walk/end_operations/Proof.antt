@@ -10,20 +10,20 @@ use Rattle.reading.proofs.walk.end_operations.Tie as tie
 on-requires : tie.Need-on-requires
 on-requires c κs = search rules
 
-returns : tie.Need-returns
+returns : tie.Need-returns-then-n-k
 unfolding end_passage
 returns c =
     let x = c.before.before.args in
-    c.on.ensures ∙ ap (λ (b : Bool). cond b (halted_at x.number x.line) (on_at x.line x.at)) (sym (le-ltb _ _ c.before.if1.true))
+    c.on.ensures ∙ ap (λ (b : Bool). cond b (halted_at x.number x.line) (on_at x.line x.at)) (sym (le-ltb _ _ c.before.if-n-k.true))
 
 halted-requires : tie.Need-halted-requires
 halted-requires c κs = search rules
 
-returns-2 : tie.Need-returns-2
+returns-2 : tie.Need-returns
 unfolding end_passage
 returns-2 c =
     let x = c.before.before.args in
-    c.halted.ensures ∙ ap (λ (b : Bool). cond b (halted_at x.number x.line) (on_at x.line x.at)) (sym (lt-ltb _ _ c.before.if1.false))
+    c.halted.ensures ∙ ap (λ (b : Bool). cond b (halted_at x.number x.line) (on_at x.line x.at)) (sym (lt-ltb _ _ c.before.if-n-k.false))
 
 pub end_operations_spec : {M : Type 1} → statement M
 end_operations_spec = tie.close (tie.spec on-requires returns halted-requires returns-2)

@@ -11,43 +11,43 @@ use Rattle.reading.proofs.walk.hour_due.Statement.{statement}
 use Rattle.reading.proofs.walk.hour_due.Tie as tie
 
 -- the places of the code, each from the next one below it
-abbrev start : tie.After-row-of → tie.Start
+abbrev start : tie.After-row_of → tie.Start
 start c = c.before.before
 
-abbrev undated : tie.Then1 → tie.After-row-of
+abbrev undated : tie.Then-row_of-eq0 → tie.After-row_of
 undated c = c.before.before
 
-abbrev dated : tie.Else1 → tie.After-row-of
+abbrev dated : tie.Else-row_of-eq0 → tie.After-row_of
 dated c = c.before.before
 
 -- the column of the date, as the row has it
-own_date : (c : tie.After-row-of) → c.row_of.result.date ≡ date_column (start c).args.t
+own_date : (c : tie.After-row_of) → c.row_of.result.date ≡ date_column (start c).args.t
 own_date c = ap (λ (r : Row). r.date) c.row_of.ensures
 
-has_date : (c : tie.Else1) → 1 ≤ date_column (start (dated c)).args.t
-has_date c = omega (arith, own_date (dated c), c.if1.false)
+has_date : (c : tie.Else-row_of-eq0) → 1 ≤ date_column (start (dated c)).args.t
+has_date c = omega (arith, own_date (dated c), c.if-row_of-eq0.false)
 
-row-of-requires : tie.Need-row-of-requires
+row-of-requires : tie.Need-row_of-requires
 row-of-requires c κs = search rules
 
-slice-aggregate-result : tie.Need-slice-aggregate-result
+slice-aggregate-result : tie.Need-slice_bounds-result-end
 slice-aggregate-result c = search rules
 
-hour-text-requires : tie.Need-hour-text-requires
+hour-text-requires : tie.Need-hour_text-requires
 hour-text-requires c κs =
     let x = start (dated c) in
-    (x.pre.0, rw (dated_count x.args.t (has_date c) x.args.n) at x.pre.1)
+    (x.requires.0, rw (dated_count x.args.t (has_date c) x.args.n) at x.requires.1)
 
-returns : tie.Need-returns
+returns : tie.Need-returns-then-row_of-eq0
 returns c =
-    let r = undated c.before in
+    let r = undated c in
     let x = (start r).args in
-    sym (undated_due x.file.now x.t x.k (sym (own_date r) ∙ c.before.if1.true))
+    sym (undated_due x.file.now x.t x.k (sym (own_date r) ∙ c.if-row_of-eq0.true))
 
-returns-2 : tie.Need-returns-2
+returns-2 : tie.Need-returns-else-row_of-eq0
 returns-2 c =
     let x = (start (dated c.before)).args in
-    c.hour-text.ensures ∙ sym (dated_due x.file.now x.t x.k (has_date c.before))
+    c.hour_text.ensures ∙ sym (dated_due x.file.now x.t x.k (has_date c.before))
 
 pub hour_due_spec : {M : Type 1} → statement M
 hour_due_spec =

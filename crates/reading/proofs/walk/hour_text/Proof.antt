@@ -6,22 +6,22 @@ use borrow.Author.Rules.{rules}
 use Rattle.reading.proofs.walk.hour_text.Statement.{statement}
 use Rattle.reading.proofs.walk.hour_text.Tie as tie
 
-mul-from : tie.Need-overflow-mul-from
+mul-from : tie.Need-overflow_mul-from
 mul-from c = omega (arith, c.requires.0.most, c.requires.1)
 
-add-from : tie.Need-overflow-add-from
+add-from : tie.Need-overflow_add-from
 add-from c = omega (arith, c.requires.0.most, c.requires.1)
 
-add-result : tie.Need-overflow-add-result
+add-result : tie.Need-overflow_add-result
 add-result c = omega (arith, c.requires.0.most, c.requires.1)
 
-sub-result : tie.Need-overflow-sub-result
+sub-result : tie.Need-slice_bounds-result-count
 sub-result c = search rules
 
-part-result-start : tie.Need-slice-bounds-result-start
+part-result-start : tie.Need-slice_bounds-result-start
 part-result-start c = search rules
 
-part-result-end : tie.Need-slice-bounds-result-end
+part-result-end : tie.Need-slice_bounds-result-end
 part-result-end c = omega (arith, c.requires.0.room, c.requires.1)
 
 returns : tie.Need-returns

@@ -20,45 +20,45 @@ use Rattle.reading.proofs.Rising.{Rising, rising_start, rising_counted, rising_e
 use Rattle.reading.proofs.walk.walk_hours.Statement.{statement}
 use Rattle.reading.proofs.walk.walk_hours.Tie as tie
 
-abbrev invariant-loop : tie.invariant-loop
+abbrev invariant-loop : tie.invariant-loop-at
 invariant-loop file period facility n₀ from₀ at₀ n from at = Rising file period n from at
 
-abbrev decreases-loop : tie.decreases-loop
+abbrev decreases-loop : tie.decreases-loop-at
 decreases-loop file period facility n₀ from₀ at₀ n from at = length file - at
 
 -- the places of the code, each from the next one below it
 abbrev entry : tie.After-facility invariant-loop decreases-loop → tie.Start invariant-loop decreases-loop
 entry c = c.before.before
 
-abbrev start : tie.At-loop invariant-loop decreases-loop → tie.Start invariant-loop decreases-loop
+abbrev start : tie.At-loop-at invariant-loop decreases-loop → tie.Start invariant-loop decreases-loop
 start c = entry c.before
 
-abbrev turn : tie.In-loop invariant-loop decreases-loop → tie.At-loop invariant-loop decreases-loop
+abbrev turn : tie.In-loop-at invariant-loop decreases-loop → tie.At-loop-at invariant-loop decreases-loop
 turn c = c.before
 
-abbrev more : tie.After-type-is invariant-loop decreases-loop → tie.In-loop invariant-loop decreases-loop
+abbrev more : tie.After-type_is invariant-loop decreases-loop → tie.In-loop-at invariant-loop decreases-loop
 more c = c.before.before
 
-abbrev typed : tie.Else1 invariant-loop decreases-loop → tie.After-type-is invariant-loop decreases-loop
+abbrev typed : tie.Else-not-type_is invariant-loop decreases-loop → tie.After-type_is invariant-loop decreases-loop
 typed c = c.before
 
-abbrev so2 : tie.After-hour-line invariant-loop decreases-loop → tie.Else1 invariant-loop decreases-loop
+abbrev so2 : tie.After-hour_line-line invariant-loop decreases-loop → tie.Else-not-type_is invariant-loop decreases-loop
 so2 c = c.before
 
-abbrev faulty : tie.After-known-told invariant-loop decreases-loop → tie.After-hour-line invariant-loop decreases-loop
-faulty c = c.before.before.before
+abbrev faulty : tie.In-Faulty invariant-loop decreases-loop → tie.After-hour_line-line invariant-loop decreases-loop
+faulty c = c.before
 
-abbrev found : tie.After-known-told2 invariant-loop decreases-loop → tie.After-hour-line invariant-loop decreases-loop
-found c = c.before.before.before
+abbrev found : tie.In-At invariant-loop decreases-loop → tie.After-hour_line-line invariant-loop decreases-loop
+found c = c.before
 
 -- where the loop stood when the type of the line was looked at, and when it was read
-abbrev stood : tie.After-type-is invariant-loop decreases-loop → tie.At-loop invariant-loop decreases-loop
+abbrev stood : tie.After-type_is invariant-loop decreases-loop → tie.At-loop-at invariant-loop decreases-loop
 stood c = turn (more c)
 
-abbrev named : tie.After-hour-line invariant-loop decreases-loop → tie.At-loop invariant-loop decreases-loop
+abbrev named : tie.After-hour_line-line invariant-loop decreases-loop → tie.At-loop-at invariant-loop decreases-loop
 named c = stood (typed (so2 c))
 
-module _ (c : tie.At-loop invariant-loop decreases-loop) where
+module _ (c : tie.At-loop-at invariant-loop decreases-loop) where
   abbrev file : List ℕ
   file = (start c).args.file.now
 
@@ -67,105 +67,105 @@ module _ (c : tie.At-loop invariant-loop decreases-loop) where
 
   -- the line that it has come to
   abbrev line : List ℕ
-  line = first_line (drop c.loop.at file)
+  line = first_line (drop c.loop-at.at file)
 
-type_tested : (c : tie.After-type-is invariant-loop decreases-loop) → c.type_is_lem.result ≡ type_is So2Concentration (line (stood c))
-type_tested c = c.type_is_lem.ensures ∙ ap (λ (l : List ℕ). type_is So2Concentration (first_line l)) (part_end (stood c).loop.at (file (stood c)))
+type_tested : (c : tie.After-type_is invariant-loop decreases-loop) → c.type_is.result ≡ type_is So2Concentration (line (stood c))
+type_tested c = c.type_is.ensures ∙ ap (λ (l : List ℕ). type_is So2Concentration (first_line l)) (part_end (stood c).loop-at.at (file (stood c)))
 
-right : (c : tie.Else1 invariant-loop decreases-loop) → type_is So2Concentration (line (stood (typed c))) ≡ true
-right c = sym (type_tested (typed c)) ∙ not-false _ c.if1.false
+right : (c : tie.Else-not-type_is invariant-loop decreases-loop) → type_is So2Concentration (line (stood (typed c))) ≡ true
+right c = sym (type_tested (typed c)) ∙ not-false _ c.if-not-type_is.false-raw
 
-told : (c : tie.After-hour-line invariant-loop decreases-loop) (h : HourLine) → c.hour-line.result ≡ h →
-    hour_line (facility_of (file (named c))) (period (named c)) (named c).loop.from (line (named c)) ≡ h
+told : (c : tie.After-hour_line-line invariant-loop decreases-loop) (h : HourLine) → c.hour_line-line.result ≡ h →
+    hour_line (facility_of (file (named c))) (period (named c)) (named c).loop-at.from (line (named c)) ≡ h
 told c h e =
-    ap (λ (l : List ℕ). hour_line (facility_of (file (named c))) (period (named c)) (named c).loop.from (first_line l))
-    (sym (part_end (named c).loop.at (file (named c))))
-    ∙ sym c.hour-line.ensures ∙ e
+    ap (λ (l : List ℕ). hour_line (facility_of (file (named c))) (period (named c)) (named c).loop-at.from (first_line l))
+    (sym (part_end (named c).loop-at.at (file (named c))))
+    ∙ sym c.hour_line-line.ensures ∙ e
 
 -- the line names an hour
-abbrev hour : tie.After-known-told2 invariant-loop decreases-loop → ℕ
-hour c = c.before.line2.given.0.0
+abbrev hour : tie.In-At invariant-loop decreases-loop → ℕ
+hour c = c.in-At.hour
 
-next : (c : tie.After-known-told2 invariant-loop decreases-loop) →
-    Rising (file (named (found c))) (period (named (found c))) ((named (found c)).loop.n + 1) (hour c + 1)
-    ((named (found c)).loop.at + (length_of So2Concentration + 1))
+next : (c : tie.In-At invariant-loop decreases-loop) →
+    Rising (file (named (found c))) (period (named (found c))) ((named (found c)).loop-at.n + 1) (hour c + 1)
+    ((named (found c)).loop-at.at + (length_of So2Concentration + 1))
 next c =
     let h = found c in
     let i = so2 h in
-    rising_next _ _ _ _ _ (named h).loop.inv (more (typed i)).loop-test.taken (right i) (hour c) (told h _ c.before.line2.given.1)
-    (start (named h)).pre.1
+    rising_next _ _ _ _ _ (named h).loop-at.invariant (more (typed i)).loop-at-test.true (right i) (hour c) (told h _ c.in-At.is)
+    (start (named h)).requires.1
 
-slice-aggregate-facility : tie.Need-slice-aggregate-facility invariant-loop decreases-loop
+slice-aggregate-facility : tie.Need-slice_bounds-facility-end invariant-loop decreases-loop
 slice-aggregate-facility c = sym (length-take-le (length_of Facility) (entry c).args.file.now (entry c).requires.0)
 
-loop-holds : tie.Need-loop-init invariant-loop decreases-loop
+loop-holds : tie.Need-loop-at-init invariant-loop decreases-loop
 loop-holds c = rising_start (entry c).args.file.now (entry c).args.period (entry c).requires.0
 
-sub-rest : tie.Need-overflow-sub-rest invariant-loop decreases-loop
+sub-rest : tie.Need-slice_bounds-rest-count invariant-loop decreases-loop
 sub-rest c = omega arith
 
-part-rest-start : tie.Need-slice-bounds-rest-start invariant-loop decreases-loop
+part-rest-start : tie.Need-slice_bounds-rest-start invariant-loop decreases-loop
 part-rest-start c = omega arith
 
-part-rest-end : tie.Need-slice-bounds-rest-end invariant-loop decreases-loop
+part-rest-end : tie.Need-slice_bounds-rest-end invariant-loop decreases-loop
 part-rest-end c = omega arith
 
-type-is-requires : tie.Need-type-is-requires invariant-loop decreases-loop
+type-is-requires : tie.Need-type_is-requires invariant-loop decreases-loop
 type-is-requires c κs = search rules
 
-walk-later-requires : tie.Need-walk-later-requires invariant-loop decreases-loop
-walk-later-requires c κs = let l = stood c.before in (rising_counted _ _ _ _ _ l.loop.inv, (start l).pre.1)
+walk-later-requires : tie.Need-walk_later-requires invariant-loop decreases-loop
+walk-later-requires c κs = let l = stood c.before in (rising_counted _ _ _ _ _ l.loop-at.invariant, (start l).requires.1)
 
-returns : tie.Need-returns invariant-loop decreases-loop
+returns : tie.Need-returns-then-not-type_is invariant-loop decreases-loop
 returns c =
     let t = c.before.before in
-    c.walk-later.ensures
-    ∙ rising_other _ _ _ _ _ (stood t).loop.invariant (more t).loop-test.true (sym (type_tested t) ∙ not-true _ c.before.if1.true)
+    c.walk_later.ensures
+    ∙ rising_other _ _ _ _ _ (stood t).loop-at.invariant (more t).loop-at-test.true (sym (type_tested t) ∙ not-true _ c.before.if-not-type_is.true-raw)
 
-hour-line-requires : tie.Need-hour-line-requires invariant-loop decreases-loop
+hour-line-requires : tie.Need-hour_line-line-requires invariant-loop decreases-loop
 hour-line-requires c κs =
     let x = start (stood (typed c)) in
-    (omega (arith, length-take-le (length_of Facility) x.args.file.now x.pre.0), x.pre.1)
+    (omega (arith, length-take-le (length_of Facility) x.args.file.now x.requires.0), x.requires.1)
 
-enum-known-line : tie.Need-enum-known-line invariant-loop decreases-loop
+enum-known-line : tie.Need-enum_known-line invariant-loop decreases-loop
 enum-known-line c = search rules
 
-add-stopped : tie.Need-overflow-add-stopped invariant-loop decreases-loop
-add-stopped c = let i = (named (faulty c)).loop.inv in omega (arith, i.rise, i.most)
+add-stopped : tie.Need-overflow_add-n invariant-loop decreases-loop
+add-stopped c = let i = (named (faulty c)).loop-at.invariant in omega (arith, i.rise, i.most)
 
 stopped-requires : tie.Need-stopped-requires invariant-loop decreases-loop
 stopped-requires c κs = search rules
 
-returns-2 : tie.Need-returns-2 invariant-loop decreases-loop
+returns-2 : tie.Need-returns-in-Faulty invariant-loop decreases-loop
 returns-2 c =
     let h = faulty c.before in
     let i = so2 h in
     c.stopped.ensures
-    ∙ rising_found _ _ _ _ _ (named h).loop.inv (more (typed i)).loop-test.taken (right i) _ (told h _ c.before.before.line.given.1)
+    ∙ rising_found _ _ _ _ _ (named h).loop-at.invariant (more (typed i)).loop-at-test.true (right i) _ (told h _ c.before.in-Faulty.is)
 
-enum-known-line-2 : tie.Need-enum-known-line-2 invariant-loop decreases-loop
+enum-known-line-2 : tie.Need-enum_known-line-in-At-1 invariant-loop decreases-loop
 enum-known-line-2 c = search rules
 
-add-from : tie.Need-overflow-add-from invariant-loop decreases-loop
+add-from : tie.Need-overflow_add-from invariant-loop decreases-loop
 add-from c = omega (arith, (next c).most)
 
-add-n : tie.Need-overflow-add-n invariant-loop decreases-loop
+add-n : tie.Need-overflow_add-n-in-loop-at invariant-loop decreases-loop
 add-n c = omega (arith, (next c).rise, (next c).most)
 
-add_at : tie.Need-overflow-add-at invariant-loop decreases-loop
+add_at : tie.Need-overflow_add-at invariant-loop decreases-loop
 add_at c = omega (arith, (next c).start, (next c).room, (next c).rise, (next c).most)
 
-loop-less : tie.Need-loop-smaller invariant-loop decreases-loop
+loop-less : tie.Need-loop-at-smaller invariant-loop decreases-loop
 loop-less c = omega arith
 
-loop-again : tie.Need-loop-preserved invariant-loop decreases-loop
+loop-again : tie.Need-loop-at-preserved invariant-loop decreases-loop
 loop-again c = next c
 
-walk-later-requires-2 : tie.Need-walk-later-requires-2 invariant-loop decreases-loop
-walk-later-requires-2 c κs = let l = c.before in (rising_counted _ _ _ _ _ l.loop.invariant, (start l).requires.1)
+walk-later-requires-2 : tie.Need-walk_later-requires-2 invariant-loop decreases-loop
+walk-later-requires-2 c κs = let l = c.before in (rising_counted _ _ _ _ _ l.loop-at.invariant, (start l).requires.1)
 
-returns-3 : tie.Need-returns-3 invariant-loop decreases-loop
-returns-3 c = c.walk-later2.ensures ∙ rising_end _ _ _ _ _ c.before.before.loop.invariant (omega arith)
+returns-3 : tie.Need-returns invariant-loop decreases-loop
+returns-3 c = c.walk_later-2.ensures ∙ rising_end _ _ _ _ _ c.before.before.loop-at.invariant (omega arith)
 
 pub walk_hours_spec : {M : Type 1} → statement M
 walk_hours_spec =

@@ -18,27 +18,27 @@ use Rattle.reading.proofs.walk.walk_later.Statement.{statement}
 use Rattle.reading.proofs.walk.walk_later.Tie as tie
 
 -- the places of the code, each from the next one below it
-abbrev start : tie.After-walk-runs → tie.Start
+abbrev start : tie.After-walk_runs-hours → tie.Start
 start c = c.before.before
 
-abbrev passed : tie.After-known-told2 → tie.After-walk-runs
-passed c = c.before.before.before
+abbrev passed : tie.In-On → tie.After-walk_runs-hours
+passed c = c.before
 
-abbrev next : tie.After-known-told2 → Cursor
-next c = c.before.hours2.given.0.0
+abbrev next : tie.In-On → Cursor
+next c = c.in-On.next
 
-on : (c : tie.After-known-told2) → (passed c).walk-runs.result ≡ On (next c)
-on c = c.before.hours2.given.1
+on : (c : tie.In-On) → (passed c).walk_runs-hours.result ≡ On (next c)
+on c = c.in-On.is
 
-here : (c : tie.After-known-told2) → Here (start (passed c)).args.file.now (next c)
-here c = subst (HereOn (start (passed c)).args.file.now) (on c) (passed c).walk-runs.ensures.here
+here : (c : tie.In-On) → Here (start (passed c)).args.file.now (next c)
+here c = subst (HereOn (start (passed c)).args.file.now) (on c) (passed c).walk_runs-hours.ensures.here
 
-module _ (c : tie.After-walk-runs) where
+module _ (c : tie.After-walk_runs-hours) where
   -- what follows them
   abbrev behind : After
   behind line ls = let a = (start c).args in walk_listed (facility_of a.file.now) a.period line (hour_lines_in a.file.now a.n) ls
 
-  whole : (x : Passage) → c.walk-runs.result ≡ x →
+  whole : (x : Passage) → c.walk_runs-hours.result ≡ x →
       let a = (start c).args in
       led a.file.now x behind ≡ walk_later (facility_of a.file.now) a.period (2 + a.n) (hour_lines_in a.file.now a.n)
       (lines (drop (hour_start a.n) a.file.now))
@@ -49,37 +49,37 @@ module _ (c : tie.After-walk-runs) where
       leads a.file.now
       (λ after. walk_due (facility_of a.file.now) (2 + a.n) (runs_of first_types (hour_lines_in a.file.now a.n))
       (lines (drop (hour_start a.n) a.file.now)) after)
-      (rw z at c.walk-runs.ensures.reads) e behind
+      (rw z at c.walk_runs-hours.ensures.reads) e behind
 
-add-walk-runs : tie.Need-overflow-add-walk-runs
+add-walk-runs : tie.Need-overflow_add-walk_runs
 add-walk-runs c = search rules
 
-add-t8 : tie.Need-overflow-add-t8
+add-t8 : tie.Need-overflow_add-n
 add-t8 c = search rules
 
-mul-t9 : tie.Need-overflow-mul-t9
+mul-t9 : tie.Need-overflow_mul-n
 mul-t9 c = search rules
 
-add-t10 : tie.Need-overflow-add-t10
+add-t10 : tie.Need-overflow_add-n-2
 add-t10 c = search rules
 
-walk-runs-requires : tie.Need-walk-runs-requires
+walk-runs-requires : tie.Need-walk_runs-hours-requires
 walk-runs-requires c κs = search rules
 
-enum-known-hours : tie.Need-enum-known-hours
+enum-known-hours : tie.Need-enum_known-hours
 enum-known-hours c = search rules
 
-enum-known-hours-2 : tie.Need-enum-known-hours-2
+enum-known-hours-2 : tie.Need-enum_known-hours-in-On-1
 enum-known-hours-2 c = search rules
 
-walk-listed-requires : tie.Need-walk-listed-requires
-walk-listed-requires c κs = let x = start (passed c) in (x.pre.0, here c, x.pre.1)
+walk-listed-requires : tie.Need-walk_listed-requires
+walk-listed-requires c κs = let x = start (passed c) in (x.requires.0, here c, x.requires.1)
 
-returns : tie.Need-returns
-returns c = whole c.before.before.before _ c.before.hours.given.1
+returns : tie.Need-returns-in-Stopped
+returns c = whole c.before _ c.in-Stopped.is
 
-returns-2 : tie.Need-returns-2
-returns-2 c = let k = c.before in c.walk-listed.ensures ∙ whole (passed k) (On (next k)) (on k)
+returns-2 : tie.Need-returns-in-On
+returns-2 c = let k = c.before in c.walk_listed.ensures ∙ whole (passed k) (On (next k)) (on k)
 
 pub walk_later_spec : {M : Type 1} → statement M
 walk_later_spec =
