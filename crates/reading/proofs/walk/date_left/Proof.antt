@@ -42,9 +42,8 @@ slice-aggregate-result c = search rules
 returns-2 : tie.Need-returns
 unfolding columns
 returns-2 c =
-    let l = c.before in
-    let x = l.before.args in
-    sym (ap next_date (hour_lines_over x.file.now x.n x.k l.if-k-n.false))
+    let x = c.before.before.args in
+    sym (ap next_date (hour_lines_over x.file.now x.n x.k c.if-k-n.false))
 
 pub date_left_spec : {M : Type 1} → statement M
 date_left_spec =

@@ -27,8 +27,8 @@ abbrev decreases-loop : tie.decreases-loop-at
 decreases-loop file period facility n₀ from₀ at₀ n from at = length file - at
 
 -- the places of the code, each from the next one below it
-abbrev entry : tie.After-facility invariant-loop decreases-loop → tie.Start invariant-loop decreases-loop
-entry c = c.before.before
+abbrev entry : tie.After-shared_slice_known-1 invariant-loop decreases-loop → tie.Start invariant-loop decreases-loop
+entry c = c.before
 
 abbrev start : tie.At-loop-at invariant-loop decreases-loop → tie.Start invariant-loop decreases-loop
 start c = entry c.before

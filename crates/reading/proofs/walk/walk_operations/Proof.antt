@@ -30,8 +30,8 @@ abbrev decreases-loop : tie.decreases-loop-at
 decreases-loop file period n facility picture at₀ line₀ from₀ rank₀ at line from rank = length file - at
 
 -- the places of the code, each from the next one below it
-abbrev entry : tie.After-facility invariant-loop decreases-loop → tie.Start invariant-loop decreases-loop
-entry c = c.before.before
+abbrev entry : tie.After-shared_slice_known-1 invariant-loop decreases-loop → tie.Start invariant-loop decreases-loop
+entry c = c.before
 
 abbrev opened : tie.At-loop-at invariant-loop decreases-loop → tie.Start invariant-loop decreases-loop
 opened c = entry c.before.before
@@ -112,20 +112,20 @@ next c =
     let Next : ℕ → ℕ → Type 0 =
     λ from rank. Listing (file l) (period l) (hours l) (start l) (l.loop-at.at + (length_of Operation + 1)) (l.loop-at.line + 1) from rank in
     ⊎_elim
-    (λ x. subst₂ Next (sym x.3) (sym x.4) (listing_idle _ _ _ _ _ _ _ _ l.loop-at.invariant h (right o) _ (opened l).requires.2 (told o _ x.1.given.1)))
-    (λ x. subst₂ Next (sym x.3) (sym x.4) (listing_operating _ _ _ _ _ _ _ _ l.loop-at.invariant h (right o) _ (opened l).requires.2 (told o _ x.1.given.1)))
-    c.match-said.branch
+    (λ x. subst₂ Next (sym x.from-is) (sym x.rank-is) (listing_idle _ _ _ _ _ _ _ _ l.loop-at.invariant h (right o) _ (opened l).requires.2 (told o _ x.in-Idle.is)))
+    (λ x. subst₂ Next (sym x.from-is) (sym x.rank-is) (listing_operating _ _ _ _ _ _ _ _ l.loop-at.invariant h (right o) _ (opened l).requires.2 (told o _ x.in-Operating.is)))
+    c.match-said.branch-raw
 
 slice-aggregate-facility : tie.Need-slice_bounds-facility-end invariant-loop decreases-loop
 slice-aggregate-facility c =
     let x = entry c in
-    sym (length-take-le (length_of Facility) x.args.file.now (omega (arith, x.pre.0.room)))
+    sym (length-take-le (length_of Facility) x.args.file.now (omega (arith, x.requires.0.room)))
 
 picture-of-requires : tie.Need-picture_of-picture-requires invariant-loop decreases-loop
 picture-of-requires c κs = search rules
 
 loop-holds : tie.Need-loop-at-init invariant-loop decreases-loop
-loop-holds c = let x = entry c.before in listing_start x.args.file.now x.args.period x.args.n x.args.start x.pre.1
+loop-holds c = let x = entry c.before in listing_start x.args.file.now x.args.period x.args.n x.args.start x.requires.1
 
 sub-rest : tie.Need-slice_bounds-rest-count invariant-loop decreases-loop
 sub-rest c = omega arith

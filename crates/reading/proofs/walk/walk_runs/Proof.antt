@@ -72,8 +72,8 @@ fault_of_lem : (facility : List ℕ) (t : RecordType) {hour hour' rest rest' : L
 fault_of_lem facility t e d r = rw (← d, ← r) e
 
 -- the places of the code, each from the next one below it
-abbrev opened : tie.After-facility invariant-loop2 decreases-loop2 invariant-loop decreases-loop → Start
-opened c = c.before.before
+abbrev opened : tie.After-shared_slice_known-1 invariant-loop2 decreases-loop2 invariant-loop decreases-loop → Start
+opened c = c.before
 
 abbrev entry : Outer → Start
 entry c = opened c.before
@@ -150,8 +150,8 @@ module _ (c : Inner) where
       let o = outer c in
       let l = o.loop-place in
       walked_join (file o) (hours o) (start o) (all o) _ _ l.at l.line _ _
-      (walked_type (file o) (hours o) (start o) (all o) l.at l.line l.place (end o) type begun.before.loop-place-test.taken (entry o).requires.3
-      begun.type_at.ensures l.invariant.1) c.loop-k.invariant.1
+      (walked_type (file o) (hours o) (start o) (all o) l.at l.line l.place (end o) type begun.before.loop-place-test.true (entry o).requires.3
+      begun.type_at-t.ensures l.invariant.1) c.loop-k.invariant.1
 
 -- a line of the type is due
 inside : (c : DueLine) → (due c).loop-k.k < count_of (shape (hours (outer (due c)))) (type (due c))
@@ -185,9 +185,9 @@ slice-aggregate-facility c = sym (long (opened c))
 loop-holds : tie.Need-loop-place-init invariant-loop2 decreases-loop2 invariant-loop decreases-loop
 loop-holds c =
     let x = opened c in (
-      x.pre.2,
+      x.requires.2,
       walked_start x.args.file.now x.args.n x.args.start
-          (due_from x.args.file.now x.args.n x.args.end x.args.first) x.pre.1,
+          (due_from x.args.file.now x.args.n x.args.end x.args.first) x.requires.1,
     )
 
 type-at-requires : tie.Need-type_at-t-requires invariant-loop2 decreases-loop2 invariant-loop decreases-loop

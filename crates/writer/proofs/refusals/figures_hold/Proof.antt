@@ -29,7 +29,7 @@ returns : tie.Need-returns
 returns c =
     let n = c.before in
     let s = n.before in
-    told _ s.before.within.ensures s.within2.ensures n.within3.ensures c.within4.ensures
+    told _ s.before.within.ensures s.within-2.ensures n.within-3.ensures c.within-4.ensures
 
 pub figures_hold_spec : {M : Type 1} → statement M
 figures_hold_spec =

@@ -12,10 +12,10 @@ use Rattle.writer.proofs.refusals.hour_refusal.Statement.{statement}
 use Rattle.writer.proofs.refusals.hour_refusal.Tie as tie
 
 -- the places of the code, each from the next one below it
-abbrev read : tie.Else1 → tie.After-readings-hold
+abbrev read : tie.Else-not-readings_hold → tie.After-readings_hold
 read c = c.before
 
-abbrev recorded : tie.After-figures-hold → tie.After-recorded-readings
+abbrev recorded : tie.After-figures_hold → tie.After-recorded_readings
 recorded c = c.before.before
 
 readings_refused : (h : SheetHour) → readings_hold h ≡ false → 32 ≡ hour_refusal h
@@ -27,34 +27,34 @@ unfolding hour_refusal
 figures_decide h e b f = rw (e, f)
 
 -- the readings hold
-held : (c : tie.Else1) → readings_hold (read c).before.args.h ≡ true
-held c = sym (read c).readings-hold.ensures ∙ not-false _ c.if1.false
+held : (c : tie.Else-not-readings_hold) → readings_hold (read c).before.args.h ≡ true
+held c = sym (read c).readings_hold.ensures ∙ not-false _ c.if-not-readings_hold.false-raw
 
 -- what was found of the figures
-found : (c : tie.After-figures-hold) → figures_fit (read (recorded c).before).before.args.h ≡ c.figures-hold.result
+found : (c : tie.After-figures_hold) → figures_fit (read (recorded c).before).before.args.h ≡ c.figures_hold.result
 found c =
-    sym (c.figures-hold.ensures ∙ ap figures_hold (c.before.rounded-figures.ensures ∙ ap rounded_figures (recorded c).recorded-readings.ensures))
+    sym (c.figures_hold.ensures ∙ ap figures_hold (c.before.rounded_figures.ensures ∙ ap rounded_figures (recorded c).recorded_readings.ensures))
 
-readings-hold-requires : tie.Need-readings-hold-requires
+readings-hold-requires : tie.Need-readings_hold-requires
 readings-hold-requires c κs = search rules
 
-returns : tie.Need-returns
-returns c = readings_refused c.before.before.args.h (sym c.before.readings-hold.ensures ∙ not-true _ c.if1.true)
+returns : tie.Need-returns-then-not-readings_hold
+returns c = readings_refused c.before.before.args.h (sym c.before.readings_hold.ensures ∙ not-true _ c.if-not-readings_hold.true-raw)
 
-recorded-readings-requires : tie.Need-recorded-readings-requires
+recorded-readings-requires : tie.Need-recorded_readings-requires
 recorded-readings-requires c κs = search rules
 
-rounded-figures-requires : tie.Need-rounded-figures-requires
-rounded-figures-requires c κs = rw c.recorded-readings.ensures (readings_true _ (held c.before)).2
+rounded-figures-requires : tie.Need-rounded_figures-requires
+rounded-figures-requires c κs = rw c.recorded_readings.ensures (readings_true _ (held c.before)).2
 
-figures-hold-requires : tie.Need-figures-hold-requires
+figures-hold-requires : tie.Need-figures_hold-requires
 figures-hold-requires c κs = search rules
 
-returns-2 : tie.Need-returns-2
-returns-2 c = figures_decide _ (held (recorded c.before).before) false (found c.before ∙ not-true _ c.if2.true)
+returns-2 : tie.Need-returns-then-not-figures_hold
+returns-2 c = figures_decide _ (held (recorded c.before).before) false (found c.before ∙ not-true _ c.if-not-figures_hold.true-raw)
 
-returns-3 : tie.Need-returns-3
-returns-3 c = figures_decide _ (held (recorded c.before).before) true (found c.before ∙ not-false _ c.if2.false)
+returns-3 : tie.Need-returns
+returns-3 c = figures_decide _ (held (recorded c.before).before) true (found c.before ∙ not-false _ c.if-not-figures_hold.false-raw)
 
 pub hour_refusal_spec : {M : Type 1} → statement M
 hour_refusal_spec =

@@ -21,16 +21,16 @@ use Rattle.writer.proofs.report.write_report.Statement.{statement}
 use Rattle.writer.proofs.report.write_report.Tie as tie
 
 -- the places of the code, each from the next one below it
-abbrev start : tie.After-write-facility-arg → tie.Start
+abbrev start : tie.After-write_facility-arg-1 → tie.Start
 start c = c.before.before.before.before
 
-abbrev headed : tie.After-write-hours-arg → tie.After-write-facility
+abbrev headed : tie.After-write_hours-arg-1 → tie.After-write_facility
 headed c = c.before.before.before
 
-abbrev hourly : tie.After-shape-of → tie.After-write-hours
+abbrev hourly : tie.After-shape_of → tie.After-write_hours-totals
 hourly c = c.before.before.before
 
-abbrev entry : tie.After-shape-of → tie.Start
+abbrev entry : tie.After-shape_of → tie.Start
 entry c = start (headed (hourly c).before).before
 
 with_totals : (name : List ℕ) {at at' : ℕ} {q q' : Quarter} {b b' : List ℕ} → at ≡ at' → q ≡ q' → b ≡ b'
@@ -38,32 +38,32 @@ with_totals : (name : List ℕ) {at at' : ℕ} {q q' : Quarter} {b b' : List ℕ
 with_totals name at q b = rw (at, q, b)
 
 -- where line 301 starts
-starts : (c : tie.After-offset-of) → c.offset-of.result ≡ offset_of (shape_of (entry c.before).args.sheet.now) QuarterTotals 0
-starts c = rw c.before.shape-of.ensures at c.offset-of.ensures
+starts : (c : tie.After-offset_of-at) → c.offset_of-at.result ≡ offset_of (shape_of (entry c.before).args.sheet.now) QuarterTotals 0
+starts c = rw c.before.shape_of.ensures at c.offset_of-at.ensures
 
-write-facility-requires : tie.Need-write-facility-requires
+write-facility-requires : tie.Need-write_facility-requires
 write-facility-requires c κs =
     let s = start c in
-    (omega (arith, line_inside (shape_of s.args.sheet.now) Facility 0 (lit< tt), s.pre.room), s.pre.named)
+    (omega (arith, line_inside (shape_of s.args.sheet.now) Facility 0 (lit< tt), s.requires.room), s.requires.named)
 
-write-hours-requires : tie.Need-write-hours-requires
-write-hours-requires c κs = let f = headed c in still_fits (start f.before).requires f.write-facility.kept.0
+write-hours-requires : tie.Need-write_hours-totals-requires
+write-hours-requires c κs = let f = headed c in still_fits (start f.before).requires f.write_facility.auto.buffer
 
-shape-of-requires : tie.Need-shape-of-requires
+shape-of-requires : tie.Need-shape_of-requires
 shape-of-requires c κs = search rules
 
-offset-of-requires : tie.Need-offset-of-requires
-offset-of-requires c κs = (rw c.shape-of.ensures (entry c).requires.writable.held, omega arith)
+offset-of-requires : tie.Need-offset_of-at-requires
+offset-of-requires c κs = (rw c.shape_of.ensures (entry c).requires.writable.held, omega arith)
 
-write-totals-requires : tie.Need-write-totals-requires
+write-totals-requires : tie.Need-write_totals-requires
 write-totals-requires c κs =
     let w = hourly c.before.before in
     let f = headed w.before in
     let s = start f.before in
     let i = line_inside (shape_of s.args.sheet.now) QuarterTotals 0 (lit< tt) in
-    (rw (starts c.before) (omega (arith, i, s.pre.room, w.write-hours.kept.0, f.write-facility.kept.0)), s.pre.named)
+    (rw (starts c.before) (omega (arith, i, s.requires.room, w.write_hours-totals.auto.buffer, f.write_facility.auto.buffer)), s.requires.named)
 
-same_length : tie.Need-same-length
+same_length : tie.Need-shape_of-buffer
 same_length c = search rules
 
 returns : tie.Need-returns
@@ -74,11 +74,11 @@ returns c =
     let f = headed w.before in
     let s = start f.before in
     let x = s.args in
-    t.write-totals.ensures
-    ∙ with_totals _ (starts o) w.write-hours.ensures.0 (w.write-hours.ensures.1 ∙ ap (hours_lines _ _ _ _ _ _) f.write-facility.ensures)
-    ∙ report_written_lem x.year x.quarter x.name.now s.pre.named (report_hours (sheet_hours x.sheet.now)) (shape_of x.sheet.now)
+    t.write_totals.ensures
+    ∙ with_totals _ (starts o) w.write_hours-totals.ensures.0 (w.write_hours-totals.ensures.1 ∙ ap (hours_lines _ _ _ _ _ _) f.write_facility.ensures)
+    ∙ report_written_lem x.year x.quarter x.name.now s.requires.named (report_hours (sheet_hours x.sheet.now)) (shape_of x.sheet.now)
     (report_shape x.sheet.now)
-    x.buffer.now s.pre.room
+    x.buffer.now s.requires.room
 
 pub write_report_spec : {M : Type 1} → statement M
 write_report_spec =
