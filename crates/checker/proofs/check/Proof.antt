@@ -18,37 +18,37 @@ kept : (file : List ℕ) (r : Answer) → r ≡ checked file → (r ≡ checked 
 kept file r e = (e, rw e (promise file))
 
 -- the file that was read, and what the match on the reading tells
-abbrev file : tie.After-read → List ℕ
+abbrev file : tie.After-read-reading → List ℕ
 file c = c.before.before.args.file.now
 
-abbrev refused : tie.After-reading → tie.After-read
+abbrev refused : tie.In-Refused-2 → tie.After-read-reading
 refused c = c.before.before
 
-abbrev clean : tie.After-reading2 → tie.After-read
+abbrev clean : tie.In-Clean-2 → tie.After-read-reading
 clean c = c.before.before
 
-said : (c : tie.After-reading2) → read_of (file (clean c)) ≡ Clean c.reading2.given.0.0
-said c = sym (clean c).read.ensures ∙ c.reading2.given.1
+said : (c : tie.In-Clean-2) → read_of (file (clean c)) ≡ Clean c.reading-in-Clean-1.given.0.0
+said c = sym (clean c).read-reading.ensures ∙ c.reading-in-Clean-1.given.1
 
-read-requires : tie.Need-read-requires
+read-requires : tie.Need-read-reading-requires
 read-requires c κs = search rules
 
-enum-known-reading : tie.Need-enum-known-reading
+enum-known-reading : tie.Need-enum_known-reading
 enum-known-reading c = search rules
 
-enum-known-reading-2 : tie.Need-enum-known-reading-2
+enum-known-reading-2 : tie.Need-enum_known-reading-in-Clean-1
 enum-known-reading-2 c = search rules
 
 judge-requires : tie.Need-judge-requires
 judge-requires c κs = let l = file (clean c.before) in right_judgeable l _ (read_right l _ (said c.before))
 
-returns : tie.Need-returns
+returns : tie.Need-returns-in-Refused
 unfolding after_reading checked
 returns c =
-    let r = refused c.before in
-    kept (file r) _ (sym (ap (after_reading (file r)) (sym r.read.ensures ∙ c.before.reading.given.1)))
+    let r = refused c in
+    kept (file r) _ (sym (ap (after_reading (file r)) (sym r.read-reading.ensures ∙ c.in-Refused.is)))
 
-returns-2 : tie.Need-returns-2
+returns-2 : tie.Need-returns-in-Clean
 unfolding after_reading checked
 returns-2 c =
     let l = file (clean c.before.before) in

@@ -9,50 +9,50 @@ use borrow.Author.Rules.{rules}
 use Rattle.checker.proofs.judge.Statement.{statement}
 use Rattle.checker.proofs.judge.Tie as tie
 
-abbrev start : tie.After-verdict → tie.Start
+abbrev start : tie.After-verdict-said → tie.Start
 start c = c.before.before
 
-abbrev file : tie.After-verdict → List ℕ
+abbrev file : tie.After-verdict-said → List ℕ
 file c = (start c).args.file.now
 
 -- what the match on the verdict tells
-abbrev accepted : tie.After-said → tie.After-verdict
+abbrev accepted : tie.In-Accepted-2 → tie.After-verdict-said
 accepted c = c.before.before
 
-abbrev refused : tie.After-said2 → tie.After-verdict
+abbrev refused : tie.In-Refused-2 → tie.After-verdict-said
 refused c = c.before.before
 
-failed : (c : tie.After-said2) → verdict_on (file (refused c)) ≡ Failed c.said2.given.0.0
-failed c = sym (refused c).verdict.ensures ∙ c.said2.given.1
+failed : (c : tie.In-Refused-2) → verdict_on (file (refused c)) ≡ Failed c.said-in-Refused-1.given.0.0
+failed c = sym (refused c).verdict-said.ensures ∙ c.said-in-Refused-1.given.1
 
-verdict-requires : tie.Need-verdict-requires
+verdict-requires : tie.Need-verdict-said-requires
 verdict-requires c κs = search rules
 
-enum-known-said : tie.Need-enum-known-said
+enum-known-said : tie.Need-enum_known-said
 enum-known-said c = search rules
 
-enum-known-said-2 : tie.Need-enum-known-said-2
+enum-known-said-2 : tie.Need-enum_known-said-in-Refused-1
 enum-known-said-2 c = search rules
 
-failure-line-requires : tie.Need-failure-line-requires
+failure-line-requires : tie.Need-failure_line-requires
 failure-line-requires c κs =
-    let m = c.before in
+    let m = c in
     let x = start (refused m) in
-    (x.pre.standing, failure_record x.args.file.now x.args.s x.pre _ _ (failed m))
+    (x.requires.standing, failure_record x.args.file.now x.args.s x.requires _ _ (failed m))
 
-returns : tie.Need-returns
+returns : tie.Need-returns-in-Accepted
 unfolding judged
 returns c =
-    let m = c.before in
+    let m = c in
     let v = accepted m in
-    sym (ap (answer_of (file v)) (sym v.verdict.ensures ∙ m.said.given.1))
+    sym (ap (answer_of (file v)) (sym v.verdict-said.ensures ∙ m.in-Accepted.is))
 
-returns-2 : tie.Need-returns-2
+returns-2 : tie.Need-returns-in-Refused
 unfolding judged
 returns-2 c =
-    let m = c.before.before in
-    let f = m.said2.given.0.0 in
-    ap (refused_at f.number) c.failure-line.ensures ∙ sym (ap (answer_of (file (refused m))) (failed m))
+    let m = c.before in
+    let f = m.in-Refused.failure in
+    ap (refused_at f.number) c.failure_line.ensures ∙ sym (ap (answer_of (file (refused m))) (failed m))
 
 pub judge_spec : {M : Type 1} → statement M
 judge_spec = tie.close (tie.spec verdict-requires enum-known-said enum-known-said-2 failure-line-requires returns returns-2)

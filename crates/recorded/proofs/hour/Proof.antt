@@ -34,40 +34,40 @@ ranked c t e i =
     let x = c.args in
     value_stands x.file.now x.s t x.k x.k (hour_stands x.file.now x.s c.requires.0 t e x.k c.requires.1) i
 
-abbrev start : tie.After-gas-in → tie.Start
+abbrev start : tie.After-gas_in → tie.Start
 start c = c.before.before
 
-gas-in-requires : tie.Need-gas-in-requires
+gas-in-requires : tie.Need-gas_in-requires
 gas-in-requires c κs = search rules
 
-value-in-requires : tie.Need-value-in-requires
+value-in-requires : tie.Need-value_in-requires
 value-in-requires c κs = search rules
 
-value-in-requires-2 : tie.Need-value-in-requires-2
+value-in-requires-2 : tie.Need-value_in-requires-2
 value-in-requires-2 c κs = search rules
 
-value-in-requires-3 : tie.Need-value-in-requires-3
+value-in-requires-3 : tie.Need-value_in-requires-3
 value-in-requires-3 c κs = search rules
 
-value-in-requires-4 : tie.Need-value-in-requires-4
+value-in-requires-4 : tie.Need-value_in-requires-4
 value-in-requires-4 c κs = search rules
 
-thousands-of-requires : tie.Need-thousands-of-requires
+thousands-of-requires : tie.Need-thousands_of-requires
 thousands-of-requires c κs = search rules
 
-value-in-requires-5 : tie.Need-value-in-requires-5
+value-in-requires-5 : tie.Need-value_in-requires-5
 value-in-requires-5 c κs = search rules
 
-value-in-requires-6 : tie.Need-value-in-requires-6
+value-in-requires-6 : tie.Need-value_in-requires-6
 value-in-requires-6 c κs = search rules
 
-value-in-requires-7 : tie.Need-value-in-requires-7
+value-in-requires-7 : tie.Need-value_in-requires-7
 value-in-requires-7 c κs = search rules
 
-value-in-requires-8 : tie.Need-value-in-requires-8
+value-in-requires-8 : tie.Need-value_in-requires-8
 value-in-requires-8 c κs = search rules
 
-value-in-requires-9 : tie.Need-value-in-requires-9
+value-in-requires-9 : tie.Need-value_in-requires-9
 value-in-requires-9 c κs = search rules
 
 returns : tie.Need-returns
@@ -85,20 +85,20 @@ returns c =
     let gas = so2.before in
     let x = start gas in
     λ i. record {
-      time = (ap (λ (at : ListedHour). at.time) x.pre.3 ∙ listed x 0) i;
-      gas = (gas.gas-in.ensures ∙ ap has_gas (own_text x So2Mass refl)) i;
+      time = (ap (λ (at : ListedHour). at.time) x.requires.3 ∙ listed x 0) i;
+      gas = (gas.gas_in.ensures ∙ ap has_gas (own_text x So2Mass refl)) i;
       readings = record {
         so2 = (so2.value_in.ensures ∙ ranked x So2Concentration refl 0) i;
-        nox = (nox.value-in2.ensures ∙ ranked x NoxConcentration refl 0) i;
-        co2 = (co2.value-in3.ensures ∙ ranked x Co2Concentration refl 0) i;
-        flow = (thousands.thousands-of.ensures ∙ ap thousands_of (flow.value-in4.ensures ∙ ranked x VolumetricFlow refl 0)) i;
-        fc = (fc.value-in5.ensures ∙ ranked x NoxRate refl 0) i;
+        nox = (nox.value_in-2.ensures ∙ ranked x NoxConcentration refl 0) i;
+        co2 = (co2.value_in-3.ensures ∙ ranked x Co2Concentration refl 0) i;
+        flow = (thousands.thousands_of.ensures ∙ ap thousands_of (flow.value_in-4.ensures ∙ ranked x VolumetricFlow refl 0)) i;
+        fc = (fc.value_in-5.ensures ∙ ranked x NoxRate refl 0) i;
       };
       figures = record {
-        heat = (heat.value-in6.ensures ∙ listed x 1) i;
-        so2 = (so2-mass.value-in7.ensures ∙ ranked x So2Mass refl 0) i;
-        nox = (nox-rate.value-in8.ensures ∙ ranked x NoxRate refl 1) i;
-        co2 = (c.value-in9.ensures ∙ ranked x Co2Mass refl 0) i;
+        heat = (heat.value_in-6.ensures ∙ listed x 1) i;
+        so2 = (so2-mass.value_in-7.ensures ∙ ranked x So2Mass refl 0) i;
+        nox = (nox-rate.value_in-8.ensures ∙ ranked x NoxRate refl 1) i;
+        co2 = (c.value_in-9.ensures ∙ ranked x Co2Mass refl 0) i;
       };
     }
 

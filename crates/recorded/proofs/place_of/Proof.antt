@@ -17,10 +17,10 @@ use borrow.Author.Rules.{rules}
 use Rattle.recorded.proofs.place_of.Statement.{statement}
 use Rattle.recorded.proofs.place_of.Tie as tie
 
-abbrev start : tie.After-row-of → tie.Start
+abbrev start : tie.After-row_of-run → tie.Start
 start c = c.before.before
 
-module _ (c : tie.After-row-of) where
+module _ (c : tie.After-row_of-run) where
   abbrev file : List ℕ
   file = (start c).args.file.now
 
@@ -36,8 +36,8 @@ module _ (c : tie.After-row-of) where
   abbrev standing : Standing file shape_of
   standing = (start c).requires.0
 
-  run : (r : Run) → c.row_of.result.run ≡ r → (record_of type).run ≡ r
-  run r e = sym (ap (λ (w : Row). w.run) c.row_of.ensures) ∙ e
+  run : (r : Run) → c.row_of-run.result.run ≡ r → (record_of type).run ≡ r
+  run r e = sym (ap (λ (w : Row). w.run) c.row_of-run.ensures) ∙ e
 
   -- there are as many records as the run has operating hours, or one
   below : (r : Run) → (record_of type).run ≡ r → rank < lines_of r (shape shape_of.hours)
@@ -45,39 +45,39 @@ module _ (c : tie.After-row-of) where
       let some = subst (λ (n : ℕ). rank < n) (records_standing file shape_of standing type) (start c).requires.1 in
       subst (λ (r : Run). rank < lines_of r (shape shape_of.hours)) e some
 
-row-of-requires : tie.Need-row-of-requires
+row-of-requires : tie.Need-row_of-run-requires
 row-of-requires c κs = tt
 
-enum_told : tie.Need-enum-told
+enum_told : tie.Need-enum_told-1
 enum_told c = search rules
 
-enum-told-2 : tie.Need-enum-told-2
+enum-told-2 : tie.Need-enum_told-in-Hourly
 enum-told-2 c = search rules
 
-enum-told-3 : tie.Need-enum-told-3
+enum-told-3 : tie.Need-enum_told-in-Listed
 enum-told-3 c = search rules
 
-operating-place-requires : tie.Need-operating-place-requires
-operating-place-requires c κs = let r = c.before.before in (standing r, below r Listed (run r Listed c.enum-told3.given.1))
+operating-place-requires : tie.Need-operating_place-requires
+operating-place-requires c κs = let r = c.before in (standing r, below r Listed (run r Listed c.in-Listed.is))
 
-returns : tie.Need-returns
+returns : tie.Need-returns-in-Once
 returns c =
-    let r = c.before.before in
-    let e = run r Once c.enum_told.given.1 in
+    let r = c.before in
+    let e = run r Once c.in-Once.is in
     let z : 0 ≡ rank r = omega (arith, below r Once e) in
     subst (λ (k : ℕ). Stands (file r) (shape_of r) (type r) k k) z (once_stands (file r) (shape_of r) (standing r) (type r) e)
 
-returns-2 : tie.Need-returns-2
+returns-2 : tie.Need-returns-in-Hourly
 returns-2 c =
-    let r = c.before.before in
-    let e = run r Hourly c.enum-told2.given.1 in
+    let r = c.before in
+    let e = run r Hourly c.in-Hourly.is in
     hour_stands (file r) (shape_of r) (standing r) (type r) e (rank r) (below r Hourly e)
 
-returns-3 : tie.Need-returns-3
+returns-3 : tie.Need-returns-in-Listed
 returns-3 c =
-    let r = c.before.before.before in
-    let o = listed_type (type r) (run r Listed c.before.enum-told3.given.1) in
-    subst (λ (t : RecordType). Stands (file r) (shape_of r) t (rank r) c.operating-place.result) (sym o) c.operating-place.ensures
+    let r = c.before.before in
+    let o = listed_type (type r) (run r Listed c.before.in-Listed.is) in
+    subst (λ (t : RecordType). Stands (file r) (shape_of r) t (rank r) c.operating_place.result) (sym o) c.operating_place.ensures
 
 pub place_of_spec : {M : Type 1} → statement M
 place_of_spec =

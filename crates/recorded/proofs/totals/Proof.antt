@@ -19,19 +19,19 @@ total c i =
     let x = c.args in
     value_stands x.file.now x.s QuarterTotals 0 0 (once_stands x.file.now x.s c.requires QuarterTotals refl) i
 
-value-in-requires : tie.Need-value-in-requires
+value-in-requires : tie.Need-value_in-requires
 value-in-requires c κs = search rules
 
-value-in-requires-2 : tie.Need-value-in-requires-2
+value-in-requires-2 : tie.Need-value_in-requires-2
 value-in-requires-2 c κs = search rules
 
-value-in-requires-3 : tie.Need-value-in-requires-3
+value-in-requires-3 : tie.Need-value_in-requires-3
 value-in-requires-3 c κs = search rules
 
-value-in-requires-4 : tie.Need-value-in-requires-4
+value-in-requires-4 : tie.Need-value_in-requires-4
 value-in-requires-4 c κs = search rules
 
-value-in-requires-5 : tie.Need-value-in-requires-5
+value-in-requires-5 : tie.Need-value_in-requires-5
 value-in-requires-5 c κs = search rules
 
 returns : tie.Need-returns
@@ -42,8 +42,8 @@ returns c =
     let co2 = heat.before in
     let so2 = co2.before in
     let x = so2.before.before in
-    rw (← hours_standing x.args.file.now x.args.s x.requires, so2.value_in.ensures ∙ total x 0, co2.value-in2.ensures ∙ total x 1)
-    (rw (heat.value-in3.ensures ∙ total x 2, nox.value-in4.ensures ∙ total x 3, c.value-in5.ensures ∙ total x 4))
+    rw (← hours_standing x.args.file.now x.args.s x.requires, so2.value_in.ensures ∙ total x 0, co2.value_in-2.ensures ∙ total x 1)
+    (rw (heat.value_in-3.ensures ∙ total x 2, nox.value_in-4.ensures ∙ total x 3, c.value_in-5.ensures ∙ total x 4))
 
 pub totals_spec : {M : Type 1} → statement M
 totals_spec =

@@ -19,29 +19,29 @@ use Rattle.recorded.proofs.value_in.Statement.{statement}
 use Rattle.recorded.proofs.value_in.Tie as tie
 
 -- the places of the code, each from the next one below it
-abbrev start : tie.After-value-at → tie.Start
+abbrev start : tie.After-value_at-v → tie.Start
 start c = c.before.before
 
-abbrev column : tie.After-offset-of → tie.After-value-at
+abbrev column : tie.After-offset_of → tie.After-value_at-v
 column c = c.before
 
 fits : (c : tie.Start) → (offset_of c.args.s c.args.t c.args.p + length_of c.args.t ≤ length c.args.file.now) × (c.args.p ≤ most_hours)
 fits c = room_for c.args.file.now c.args.s c.requires.0 c.args.t c.args.p c.requires.1
 
-inside : (c : tie.After-value-at) → ValueInside (start c).args.t c.value_at_lem.result
-inside c = rw (← c.value_at_lem.ensures) at (value_inside (start c).args.t (start c).args.i (omega arith))
+inside : (c : tie.After-value_at-v) → ValueInside (start c).args.t c.value_at-v.result
+inside c = rw (← c.value_at-v.ensures) at (value_inside (start c).args.t (start c).args.i (omega arith))
 
-room : (c : tie.After-offset-of) →
-    let x = (start (column c)).args in c.offset-of.result + length_of x.t ≤ length x.file.now
-room c = omega (arith, c.offset-of.ensures, (fits (start (column c))).0)
+room : (c : tie.After-offset_of) →
+    let x = (start (column c)).args in c.offset_of.result + length_of x.t ≤ length x.file.now
+room c = omega (arith, c.offset_of.ensures, (fits (start (column c))).0)
 
-value-at-requires : tie.Need-value-at-requires
+value-at-requires : tie.Need-value_at-v-requires
 value-at-requires c κs = search rules
 
-offset-of-requires : tie.Need-offset-of-requires
+offset-of-requires : tie.Need-offset_of-requires
 offset-of-requires c κs = ((start c).requires.0.held, (fits (start c)).1)
 
-add_start : tie.Need-overflow-add-start
+add_start : tie.Need-overflow_add-start
 add_start c =
     let p = inside (column c.before) in
     omega (arith, room c.before)
@@ -56,8 +56,8 @@ returns c =
     let o = c.before.before in
     let s = start (column o) in
     let x = s.args in
-    let there = value_at_lem x.file.now x.s x.t x.p x.i s.pre.2 in
-    let formed = s.pre.0.formed x.t x.p s.pre.1 x.i s.pre.2 in
+    let there = value_at_lem x.file.now x.s x.t x.p x.i s.requires.2 in
+    let formed = s.requires.0.formed x.t x.p s.requires.1 x.i s.requires.2 in
     let field = field_of (value_at x.t x.i).decimals
     (columns (offset_of x.s x.t x.p + (value_at x.t x.i).start) (value_at x.t x.i).width x.file.now) in
     let n : field ≡ Malformed → ⊥ = λ m. formed (there ∙ m) in

@@ -22,16 +22,16 @@ abbrev written : tie.After-shape_of → tie.After-write_report
 written c = c.before.before.before
 
 -- the name is an array
-named : (c : tie.Start) → length c.args.t3 ≡ stack_width
+named : (c : tie.Start) → length c.args.name ≡ stack_width
 named c = search rules
 
 -- nothing is refused
 fine : (c : tie.Else-refusal-ne0) →
     let x = (start c.before).args in
-    Writable x.year x.quarter x.t3 x.sheet.now × (report_length (shape_of x.sheet.now) ≤ length x.buffer.now)
+    Writable x.year x.quarter x.name x.sheet.now × (report_length (shape_of x.sheet.now) ≤ length x.buffer.now)
 fine c =
     let x = (start c.before).args in
-    not_refused x.year x.quarter x.t3 x.sheet.now (length x.buffer.now) (sym c.before.refusal_of-refusal.ensures ∙ c.if-refusal-ne0.false)
+    not_refused x.year x.quarter x.name x.sheet.now (length x.buffer.now) (sym c.before.refusal_of-refusal.ensures ∙ c.if-refusal-ne0.false)
 
 slice-aggregate-refusal-of : tie.Need-slice_bounds-refusal_of-end
 slice-aggregate-refusal-of c = search rules
@@ -43,7 +43,7 @@ returns : tie.Need-returns-then-refusal-ne0
 returns c =
     let x = (start c.before).args in
     let r = c.before.refusal_of-refusal in
-    refused x.year x.quarter x.t3 x.sheet.now x.buffer.now r.result r.ensures c.if-refusal-ne0.true
+    refused x.year x.quarter x.name x.sheet.now x.buffer.now r.result r.ensures c.if-refusal-ne0.true
 
 slice-aggregate-write-report : tie.Need-slice_bounds-write_report-end
 slice-aggregate-write-report c = search rules
@@ -69,7 +69,7 @@ returns-2 c =
     let s = start u.before in
     let x = s.args in
     rw (c.report_length.ensures.0, c.before.shape_of.ensures, w.write_report.ensures)
-    (accepted x.year x.quarter x.t3 x.sheet.now x.buffer.now (sym u.if-refusal-ne0.false ∙ u.before.refusal_of-refusal.ensures) (named s))
+    (accepted x.year x.quarter x.name x.sheet.now x.buffer.now (sym u.if-refusal-ne0.false ∙ u.before.refusal_of-refusal.ensures) (named s))
 
 pub write_spec : {M : Type 1} → statement M
 write_spec =
