@@ -21,14 +21,14 @@ kept file r e = (e, rw e (promise file))
 abbrev file : tie.After-read-reading → List ℕ
 file c = c.before.before.args.file.now
 
-abbrev refused : tie.In-Refused-2 → tie.After-read-reading
-refused c = c.before.before
+abbrev refused : tie.In-Refused → tie.After-read-reading
+refused c = c.before
 
-abbrev clean : tie.In-Clean-2 → tie.After-read-reading
-clean c = c.before.before
+abbrev clean : tie.In-Clean → tie.After-read-reading
+clean c = c.before
 
-said : (c : tie.In-Clean-2) → read_of (file (clean c)) ≡ Clean c.reading-in-Clean-1.given.0.0
-said c = sym (clean c).read-reading.ensures ∙ c.reading-in-Clean-1.given.1
+said : (c : tie.In-Clean) → read_of (file (clean c)) ≡ Clean c.in-Clean.report
+said c = sym (clean c).read-reading.ensures ∙ c.in-Clean.is
 
 read-requires : tie.Need-read-reading-requires
 read-requires c κs = search rules

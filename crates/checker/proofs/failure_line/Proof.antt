@@ -42,7 +42,7 @@ line-of-requires c κs = ((standing c.before).held, omega arith)
 
 returns : tie.Need-returns-then-f-eq0
 returns c = let x = c.before.before in
-    c.Line-of.ensures ∙ line_stands (once_stands (file x) (shape x) (standing x) QuarterTotals refl)
+    c.line_of.ensures ∙ line_stands (once_stands (file x) (shape x) (standing x) QuarterTotals refl)
     ∙ sym (ap (line_named (file x) (failure x).number) c.before.if-f-eq0.true)
 
 -- it has a rank: that of hour k

@@ -16,14 +16,14 @@ abbrev file : tie.After-verdict-said → List ℕ
 file c = (start c).args.file.now
 
 -- what the match on the verdict tells
-abbrev accepted : tie.In-Accepted-2 → tie.After-verdict-said
-accepted c = c.before.before
+abbrev accepted : tie.In-Accepted → tie.After-verdict-said
+accepted c = c.before
 
-abbrev refused : tie.In-Refused-2 → tie.After-verdict-said
-refused c = c.before.before
+abbrev refused : tie.In-Refused → tie.After-verdict-said
+refused c = c.before
 
-failed : (c : tie.In-Refused-2) → verdict_on (file (refused c)) ≡ Failed c.said-in-Refused-1.given.0.0
-failed c = sym (refused c).verdict-said.ensures ∙ c.said-in-Refused-1.given.1
+failed : (c : tie.In-Refused) → verdict_on (file (refused c)) ≡ Failed c.in-Refused.failure
+failed c = sym (refused c).verdict-said.ensures ∙ c.in-Refused.is
 
 verdict-requires : tie.Need-verdict-said-requires
 verdict-requires c κs = search rules

@@ -216,16 +216,17 @@ returns c =
     let o = ended c.before in
     let h = o.hours in
     ⊎_elim
-    (λ x. absurd (c.if-failed-ne0.true (ap (λ (y : Failure). y.number) x.1)))
+    (λ x. absurd (c.if-failed-ne0.true (ap (λ (y : Failure). y.number) x.failed-is)))
     (λ x.
-    let r = x.2.result in
-    let l = x.3 in
+    let r = x.hour-hour.result in
+    let l = x.loop-j in
+    let e = x.figure_at-figure.ensures in
     let p : passes_test (figure_at l.j).quantity r ≡ false =
-    sym (ap (λ (w : FigureRow). passes_test w.quantity r) x.5.ensures) ∙ sym x.6.ensures.test ∙ not-true x.6.result x.7.taken in
-    ap Refused x.8 ∙ ap₂ failed_at (ap (λ (w : FigureRow). w.number) x.5.ensures) (add-one h.k)
-    ∙ figure_failed (file o) (shape o) h.k r l.j x.4.taken p
+    sym (ap (λ (w : FigureRow). passes_test w.quantity r) e) ∙ sym x.figure_passes.ensures.test ∙ not-true x.figure_passes.result x.if-not-figure_passes.true-raw in
+    ap Refused x.failed-is ∙ ap₂ failed_at (ap (λ (w : FigureRow). w.number) e) (add-one h.k)
+    ∙ figure_failed (file o) (shape o) h.k r l.j x.loop-j-test.true p
     ∙ l.invariant.rest)
-    c.before.before.if-k-hours.branch
+    c.before.before.if-k-hours.branch-raw
 
 quarter-requires : tie.Need-quarter-requires invariant-loop decreases-loop invariant-hours decreases-hours
 quarter-requires c κs = (ended c.before).hours.invariant.room
@@ -244,11 +245,11 @@ returns-2 c =
     let o = ended g in
     let h = o.hours in
     ⊎_elim
-    (λ x. c.compare.ensures ∙ pass_end (file o) (shape o) h.totals h.k h.from h.invariant x.0.taken q.quarter.ensures t.totals.ensures)
+    (λ x. c.compare.ensures ∙ pass_end (file o) (shape o) h.totals h.k h.from h.invariant x.if-k-hours.true q.quarter.ensures t.totals.ensures)
     (λ x.
-    let n = ap (λ (y : Failure). y.number) x.8 in
-    absurd (omega (arith, n, ap (λ (w : FigureRow). w.number) x.5.ensures, figure_some x.3.j x.4.taken, (clean q).if-failed-ne0.false)))
-    g.before.if-k-hours.came
+    let n = ap (λ (y : Failure). y.number) x.failed-is in
+    absurd (omega (arith, n, ap (λ (w : FigureRow). w.number) x.figure_at-figure.ensures, figure_some x.loop-j.j x.loop-j-test.true, (clean q).if-failed-ne0.false)))
+    g.before.if-k-hours.branch-raw
 
 pub verdict_spec : {M : Type 1} → statement M
 verdict_spec =
