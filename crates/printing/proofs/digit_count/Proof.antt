@@ -7,29 +7,29 @@ use Rattle.printing.specs.PrintedLaws.{count_one, count_more, digit_count_most}
 use Rattle.printing.proofs.digit_count.Statement.{statement}
 use Rattle.printing.proofs.digit_count.Tie as tie
 
-abbrev invariant-loop : tie.invariant-loop
+abbrev invariant-loop : tie.invariant-loop-rest
 invariant-loop value count₀ rest₀ count rest =
     (1 ≤ count) × ((count + rest ≤ value + 1) × (count + digit_count_in (value + 1 - count) rest ≡ digit_count value + 1))
 
-abbrev decreases-loop : tie.decreases-loop
+abbrev decreases-loop : tie.decreases-loop-rest
 decreases-loop value count₀ rest₀ count rest = rest
 
-loop-holds : tie.Need-loop-init invariant-loop decreases-loop
+loop-holds : tie.Need-loop-rest-init invariant-loop decreases-loop
 loop-holds c =
     let v = c.args.value in
     let e : v + 1 - 1 ≡ v = omega arith in
     (omega arith, (omega arith, rw e (omega arith)))
 
-add-count : tie.Need-overflow-add-count invariant-loop decreases-loop
+add-count : tie.Need-overflow_add-count invariant-loop decreases-loop
 add-count c = omega arith
 
-loop-less : tie.Need-loop-smaller invariant-loop decreases-loop
+loop-less : tie.Need-loop-rest-smaller invariant-loop decreases-loop
 loop-less c = omega arith
 
-loop-again : tie.Need-loop-preserved invariant-loop decreases-loop
+loop-again : tie.Need-loop-rest-preserved invariant-loop decreases-loop
 loop-again c =
     let v = c.before.before.args.value in
-    let l = c.before.loop in
+    let l = c.before.loop-rest in
     let steps = v + 1 - (l.count + 1) in
     let e : v + 1 - l.count ≡ suc steps = omega arith in
     let i : l.count + digit_count_in (suc steps) l.rest ≡ digit_count v + 1 = rw e at l.invariant.1.1 in
@@ -38,7 +38,7 @@ loop-again c =
 returns : tie.Need-returns invariant-loop decreases-loop
 returns c =
     let v = c.before.before.args.value in
-    let l = c.before.loop in
+    let l = c.before.loop-rest in
     let e : digit_count_in (v + 1 - l.count) l.rest ≡ 1 = count_one (v + 1 - l.count) l.rest (omega arith) in
     (omega arith, omega (arith, digit_count_most 19 v v (omega arith)))
 

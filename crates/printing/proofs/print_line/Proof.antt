@@ -11,7 +11,7 @@ use Rattle.printing.proofs.Lines.{left_from, left_none, left_length, left_put, l
 use Rattle.printing.proofs.print_line.Statement.{statement}
 use Rattle.printing.proofs.print_line.Tie as tie
 
-abbrev invariant-loop : tie.invariant-loop
+abbrev invariant-loop : tie.invariant-loop-i
 invariant-loop line₀ word numbers column₀ i₀ t6 line column i =
     (i ≤ length numbers)
     × (1 ≤ column)
@@ -20,71 +20,71 @@ invariant-loop line₀ word numbers column₀ i₀ t6 line column i =
     × (column + length (left_from i numbers) ≡ column₀ + length (left_from 0 numbers))
     × (put column (left_from i numbers) line ≡ put column₀ (left_from 0 numbers) line₀)
 
-abbrev decreases-loop : tie.decreases-loop
+abbrev decreases-loop : tie.decreases-loop-i
 decreases-loop line₀ word numbers column₀ i₀ t6 line column i = length numbers - i
 
 -- the places of the code, each from the next one below it
-abbrev start : tie.After-write-bytes invariant-loop decreases-loop → tie.Start invariant-loop decreases-loop
+abbrev start : tie.After-write_bytes invariant-loop decreases-loop → tie.Start invariant-loop decreases-loop
 start c = c.before.before.before.before.before
 
-abbrev worded : tie.At-loop invariant-loop decreases-loop → tie.After-write-bytes invariant-loop decreases-loop
+abbrev worded : tie.At-loop-i invariant-loop decreases-loop → tie.After-write_bytes invariant-loop decreases-loop
 worded c = c.before.before.before
 
-abbrev passed : tie.After-print-number invariant-loop decreases-loop → tie.At-loop invariant-loop decreases-loop
+abbrev passed : tie.After-print_number-column invariant-loop decreases-loop → tie.At-loop-i invariant-loop decreases-loop
 passed c = c.before.before.before.before
 
-abbrev ended : tie.After-write-bytes2 invariant-loop decreases-loop → tie.At-loop invariant-loop decreases-loop
-ended c = c.before.before.before.before
+abbrev ended : tie.After-write_bytes-2 invariant-loop decreases-loop → tie.At-loop-i invariant-loop decreases-loop
+ended c = c.before.before.before.before.before
 
-write-bytes-requires : tie.Need-write-bytes-requires invariant-loop decreases-loop
+write-bytes-requires : tie.Need-write_bytes-requires invariant-loop decreases-loop
 write-bytes-requires c κs = omega arith
 
-add-column : tie.Need-overflow-add-column invariant-loop decreases-loop
+add-column : tie.Need-overflow_add-column invariant-loop decreases-loop
 add-column c = omega arith
 
-loop-holds : tie.Need-loop-init invariant-loop decreases-loop
+loop-holds : tie.Need-loop-i-init invariant-loop decreases-loop
 loop-holds c = (omega arith, omega arith, omega arith, refl, refl, refl)
 
-mul-print-number : tie.Need-overflow-mul-print-number invariant-loop decreases-loop
+mul-print-number : tie.Need-offset_bounds-numbers-i invariant-loop decreases-loop
 mul-print-number c = omega arith
 
-shared-slice-read-print-number : tie.Need-shared-slice-read-print-number invariant-loop decreases-loop
+shared-slice-read-print-number : tie.Need-bounds-numbers-i invariant-loop decreases-loop
 shared-slice-read-print-number c = omega arith
 
-print-number-requires : tie.Need-print-number-requires invariant-loop decreases-loop
+print-number-requires : tie.Need-print_number-column-requires invariant-loop decreases-loop
 print-number-requires c κs = omega arith
 
-add-i : tie.Need-overflow-add-i invariant-loop decreases-loop
+add-i : tie.Need-overflow_add-i invariant-loop decreases-loop
 add-i c = omega arith
 
-loop-less : tie.Need-loop-smaller invariant-loop decreases-loop
+loop-less : tie.Need-loop-i-smaller invariant-loop decreases-loop
 loop-less c = omega arith
 
-loop-again : tie.Need-loop-preserved invariant-loop decreases-loop
+loop-again : tie.Need-loop-i-preserved invariant-loop decreases-loop
 loop-again c =
     let k = c.before.before in
     let numbers = (start (worded (passed k))).args.numbers.now in
-    let l = (passed k).loop in
-    let p = k.print-number in
+    let l = (passed k).loop-i in
+    let p = k.print_number-column in
     let v = get_or numbers l.i 0 in (
       omega arith,
       omega arith,
       omega arith,
       omega arith,
       omega (arith, left_length numbers l.i (omega arith)),
-      ap (λ (n : ℕ). put n (left_from (l.i + 1) numbers) p.new.0) p.ensures.0
+      ap (λ (n : ℕ). put n (left_from (l.i + 1) numbers) p.new.line) p.ensures.0
           ∙ ap (put (l.column + length (spaced v)) (left_from (l.i + 1) numbers)) p.ensures.2
           ∙ left_put numbers l.i l.column l.line (omega arith) (omega arith) (omega arith)
-          ∙ l.inv.5,
+          ∙ l.invariant.5,
     )
 
 slice-aggregate-write-bytes : tie.Need-slice-aggregate-write-bytes invariant-loop decreases-loop
 slice-aggregate-write-bytes c = search rules
 
-write-bytes-requires-2 : tie.Need-write-bytes-requires-2 invariant-loop decreases-loop
+write-bytes-requires-2 : tie.Need-write_bytes-requires-2 invariant-loop decreases-loop
 write-bytes-requires-2 c κs = omega arith
 
-same_length : tie.Need-same-length invariant-loop decreases-loop
+same_length : tie.Need-shape_of-line invariant-loop decreases-loop
 same_length c = search rules
 
 returns : tie.Need-returns invariant-loop decreases-loop
@@ -92,13 +92,13 @@ returns c =
     let k = c.before.before in
     let w = worded (ended k) in
     let x = (start w).args in
-    let l = (ended k).loop in
+    let l = (ended k).loop-i in
     let none : left_from l.i x.numbers.now ≡ 10 ∷ [] = left_none x.numbers.now l.i (omega arith) in (
       omega (arith, ap length none, line_length_lem x.word.now x.numbers.now),
       omega arith,
-      k.write-bytes2.ensures
+      k.write_bytes-2.ensures
           ∙ ap (λ (bs : List ℕ). put l.column bs l.line) (sym none)
-          ∙ l.inv.5
+          ∙ l.invariant.5
           ∙ ap (put (1 + length x.word.now) (left_from 0 x.numbers.now)) w.write_bytes.ensures
           ∙ line_put x.word.now x.numbers.now x.line.now (omega arith),
     )

@@ -13,37 +13,37 @@ use Rattle.printing.proofs.print_number.Statement.{statement}
 use Rattle.printing.proofs.print_number.Tie as tie
 
 -- the places of the code, each from the next one below it
-abbrev start : tie.After-digit-count → tie.Start
+abbrev start : tie.After-digit_count-count → tie.Start
 start c = c.before.before
 
-abbrev counted : tie.After-write-bytes → tie.After-digit-count
-counted c = c.before.before.before
+abbrev counted : tie.After-write_bytes → tie.After-digit_count-count
+counted c = c.before.before.before.before
 
-abbrev space : tie.After-write-digits → tie.After-write-bytes
+abbrev space : tie.After-write_digits → tie.After-write_bytes
 space c = c.before.before.before.before
 
-digit-count-requires : tie.Need-digit-count-requires
+digit-count-requires : tie.Need-digit_count-count-requires
 digit-count-requires c κs = search rules
 
 slice-aggregate-write-bytes : tie.Need-slice-aggregate-write-bytes
 slice-aggregate-write-bytes c = search rules
 
-write-bytes-requires : tie.Need-write-bytes-requires
+write-bytes-requires : tie.Need-write_bytes-requires
 write-bytes-requires c κs = search rules
 
-add-write-digits : tie.Need-overflow-add-write-digits
+add-write-digits : tie.Need-overflow_add-column
 add-write-digits c = search rules
 
-write-digits-requires : tie.Need-write-digits-requires
+write-digits-requires : tie.Need-write_digits-requires
 write-digits-requires c κs = search rules
 
-add-result : tie.Need-overflow-add-result
+add-result : tie.Need-overflow_add-result
 add-result c = search rules
 
-add-result-2 : tie.Need-overflow-add-result-2
+add-result-2 : tie.Need-overflow_add-result-2
 add-result-2 c = search rules
 
-same_length : tie.Need-same-length
+same_length : tie.Need-shape_of-line
 same_length c = search rules
 
 returns : tie.Need-returns
@@ -54,9 +54,9 @@ returns c =
     let column = x.column in
     let value = x.value in
     let spaceOnly = put column (32 ∷ []) x.line.now in
-    let e : k.write-digits.new.0 ≡ put (column + 1) (decimal_of value) spaceOnly =
-    k.write-digits.ensures
-    ∙ ap (λ (n : ℕ). put (column + 1) (digits_of n value) s.write_bytes.last.0) (counted s).digit-count.ensures.0
+    let e : k.write_digits.new.line ≡ put (column + 1) (decimal_of value) spaceOnly =
+    k.write_digits.ensures
+    ∙ ap (λ (n : ℕ). put (column + 1) (digits_of n value) s.write_bytes.new.line) (counted s).digit_count-count.ensures.0
     ∙ ap (put (column + 1) (decimal_of value)) s.write_bytes.ensures in
     let b = put_beside column (32 ∷ []) x.line.now (omega arith) (decimal_of value) (omega arith) in
     (omega (arith, digits_length (digit_count value) value), omega arith, e ∙ b)
