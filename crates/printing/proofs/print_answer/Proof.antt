@@ -25,12 +25,6 @@ print-line-requires c κs = search rules
 enum-known-answer-2 : tie.Need-enum_known-answer-in-Refused-1
 enum-known-answer-2 c = search rules
 
-slice-aggregate-print-line-3 : tie.Need-slice-aggregate-print-line-3
-slice-aggregate-print-line-3 c = search rules
-
-slice-aggregate-print-line-4 : tie.Need-slice-aggregate-print-line-4
-slice-aggregate-print-line-4 c = search rules
-
 print-line-requires-2 : tie.Need-print_line-requires-in-Refused
 print-line-requires-2 c κs = search rules
 
@@ -52,11 +46,9 @@ print_answer_spec =
     (tie.spec
     enum-known-answer
     slice-aggregate-print-line
-    slice-aggregate-print-line-2
     print-line-requires
     enum-known-answer-2
-    slice-aggregate-print-line-3
-    slice-aggregate-print-line-4
+    slice-aggregate-print-line-2
     print-line-requires-2
     same_length
     returns

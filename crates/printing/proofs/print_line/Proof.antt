@@ -12,7 +12,7 @@ use Rattle.printing.proofs.print_line.Statement.{statement}
 use Rattle.printing.proofs.print_line.Tie as tie
 
 abbrev invariant-loop : tie.invariant-loop-i
-invariant-loop line₀ word numbers column₀ i₀ t6 line column i =
+invariant-loop line₀ word numbers column₀ i₀ line column i =
     (i ≤ length numbers)
     × (1 ≤ column)
     × (column ≤ column₀ + 21 * i)
@@ -21,7 +21,7 @@ invariant-loop line₀ word numbers column₀ i₀ t6 line column i =
     × (put column (left_from i numbers) line ≡ put column₀ (left_from 0 numbers) line₀)
 
 abbrev decreases-loop : tie.decreases-loop-i
-decreases-loop line₀ word numbers column₀ i₀ t6 line column i = length numbers - i
+decreases-loop line₀ word numbers column₀ i₀ line column i = length numbers - i
 
 -- the places of the code, each from the next one below it
 abbrev start : tie.After-write_bytes invariant-loop decreases-loop → tie.Start invariant-loop decreases-loop
@@ -78,9 +78,6 @@ loop-again c =
           ∙ l.invariant.5,
     )
 
-slice-aggregate-write-bytes : tie.Need-slice-aggregate-write-bytes invariant-loop decreases-loop
-slice-aggregate-write-bytes c = search rules
-
 write-bytes-requires-2 : tie.Need-write_bytes-requires-2 invariant-loop decreases-loop
 write-bytes-requires-2 c κs = omega arith
 
@@ -118,7 +115,6 @@ print_line_spec =
     add-i
     loop-less
     loop-again
-    slice-aggregate-write-bytes
     write-bytes-requires-2
     same_length
     returns)

@@ -25,9 +25,6 @@ space c = c.before.before.before.before
 digit-count-requires : tie.Need-digit_count-count-requires
 digit-count-requires c κs = search rules
 
-slice-aggregate-write-bytes : tie.Need-slice-aggregate-write-bytes
-slice-aggregate-write-bytes c = search rules
-
 write-bytes-requires : tie.Need-write_bytes-requires
 write-bytes-requires c κs = search rules
 
@@ -66,7 +63,6 @@ print_number_spec =
     tie.close
     (tie.spec
     digit-count-requires
-    slice-aggregate-write-bytes
     write-bytes-requires
     add-write-digits
     write-digits-requires
