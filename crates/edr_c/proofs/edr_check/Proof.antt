@@ -8,68 +8,68 @@ use Rattle.edr_c.proofs.edr_check.Statement.{statement}
 use Rattle.edr_c.proofs.edr_check.Tie as tie
 
 -- the places of the code, each from the next one below it
-abbrev start : tie.After-slice-known → tie.Start
+abbrev start : tie.After-slice_known-1 → tie.Start
 start c = c.before.before
 
-abbrev totalled : tie.After-known-told → tie.After-check
-totalled c = c.before.before.before
+abbrev totalled : tie.In-Accepted → tie.After-check
+totalled c = c.before
 
-abbrev turned_down : tie.After-known-told2 → tie.After-check
-turned_down c = c.before.before.before
+abbrev turned_down : tie.In-Refused → tie.After-check
+turned_down c = c.before
 
-returns : tie.Need-returns
-returns c = let a = (start c.before).args in short a.file.now a.answer.now c.if1.true
+returns : tie.Need-returns-then-answer-lt-ANSWER_LENGTH
+returns c = let a = (start c.before).args in short a.file.now a.answer.now c.if-answer-lt-ANSWER_LENGTH.true
 
 check-requires : tie.Need-check-requires
 check-requires c κs = search rules
 
-enum-known-quarter : tie.Need-enum-known-quarter
+enum-known-quarter : tie.Need-enum_known-quarter
 enum-known-quarter c = search rules
 
-slice-write-answer : tie.Need-slice-write-answer
+slice-write-answer : tie.Need-bounds-answer-0
 slice-write-answer c = search rules
 
-slice-write-answer-2 : tie.Need-slice-write-answer-2
+slice-write-answer-2 : tie.Need-bounds-answer-1
 slice-write-answer-2 c = simp length-set (omega arith)
 
-slice-write-answer-3 : tie.Need-slice-write-answer-3
+slice-write-answer-3 : tie.Need-bounds-answer-2
 slice-write-answer-3 c = simp length-set (omega arith)
 
-slice-write-answer-4 : tie.Need-slice-write-answer-4
+slice-write-answer-4 : tie.Need-bounds-answer-3
 slice-write-answer-4 c = simp length-set (omega arith)
 
-slice-write-answer-5 : tie.Need-slice-write-answer-5
+slice-write-answer-5 : tie.Need-bounds-answer-4
 slice-write-answer-5 c = simp length-set (omega arith)
 
-slice-write-answer-6 : tie.Need-slice-write-answer-6
+slice-write-answer-6 : tie.Need-bounds-answer-5
 slice-write-answer-6 c = search rules
 
-enum-known-refusal : tie.Need-enum-known-refusal
+enum-known-refusal : tie.Need-enum_known-refusal
 enum-known-refusal c = search rules
 
-slice-write-answer-7 : tie.Need-slice-write-answer-7
+slice-write-answer-7 : tie.Need-bounds-answer-0-in-Refused
 slice-write-answer-7 c = search rules
 
-slice-write-answer-8 : tie.Need-slice-write-answer-8
+slice-write-answer-8 : tie.Need-bounds-answer-1-in-Refused
 slice-write-answer-8 c = simp length-set (omega arith)
 
-same_length : tie.Need-same-length
+same_length : tie.Need-shape_of-answer-in-Accepted
 same_length c = search rules
 
-returns-2 : tie.Need-returns-2
+returns-2 : tie.Need-returns-in-Accepted
 returns-2 c =
     let k = totalled c in
     let a = (start k.before.before).args in
-    accepted a.file.now a.answer.now _ (sym k.check.ensures.0 ∙ c.before.quarter.given.1) k.before.if1.left
+    accepted a.file.now a.answer.now _ (sym k.check.ensures.0 ∙ c.in-Accepted.is) k.before.if-answer-lt-ANSWER_LENGTH.false
 
-same-length-2 : tie.Need-same-length-2
+same-length-2 : tie.Need-shape_of-answer-in-Refused
 same-length-2 c = search rules
 
-returns-3 : tie.Need-returns-3
+returns-3 : tie.Need-returns-in-Refused
 returns-3 c =
     let k = turned_down c in
     let a = (start k.before.before).args in
-    refused a.file.now a.answer.now _ (sym k.check.ensures.0 ∙ c.before.refusal.given.1) k.before.if1.left
+    refused a.file.now a.answer.now _ (sym k.check.ensures.0 ∙ c.in-Refused.is) k.before.if-answer-lt-ANSWER_LENGTH.false
 
 pub edr_check_spec : {M : Type 1} → statement M
 edr_check_spec =
