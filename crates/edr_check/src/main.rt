@@ -1,13 +1,15 @@
 // Reads a quarterly stack report from standard input and prints what the check answers to it, or "too long", in one line.
 #![tactic(auto)]
 
-ghost use Rattle.std.specs.Prelude.{◌≡◌, ◌≤◌, length};
+ghost use Rattle.std.specs.Prelude.{◌≡◌, ◌≤◌, ◌<◌, ◌^◌, length, pos, negsuc, IfOk, IfErr};
+ghost use Rattle.std.specs.Result.{ForOk};
 ghost use Rattle.columns.specs.Columns.{put};
 ghost use Rattle.checker.specs.Checked.{checked};
 ghost use Rattle.printing.specs.Printed.{printed, longest_line};
 ghost use Rattle.edr_check.specs.Input.{ReadTo, input_of};
 
-use libc::{STDERR_FILENO, STDIN_FILENO, STDOUT_FILENO};
+use std::io;
+use std::io::{Read, Stdin, Write};
 
 // What the reads of standard input came to: so many bytes of report, and what the last read returned. That is the one that brought
 // nothing, or, behind a report that fills its buffer, the read of one byte more.
@@ -25,21 +27,33 @@ enum Input {
     Unreadable,
 }
 
+// What a read returned, as the system says it: a count, or a number below 0.
+fn returned(got: io::Result<usize>) -> isize
+    requires { ForOk got (λ n. n < 2 ^ 63) }
+    ensures count { IfOk got (λ n. result ≡ pos n) }
+    ensures refused { IfErr got (λ e. result ≡ negsuc 0) }
+{
+    match got {
+        Ok(count) => count as isize,
+        Err(_) => -1,
+    }
+}
+
 // Reads until the input ends or one byte more than the report holds has come.
-fn read_report(report: &mut [u8]) -> Reads
+fn read_report(input: &mut Stdin, report: &mut [u8]) -> Reads
     ensures { ReadTo (length report.old) result }
 {
     let mut size = 0;
     while size < report.len() {
-        let got = libc::read(STDIN_FILENO, &mut report[size..]);
-        let more = io::count(got, &report[size..]);
-        if more == 0 {
-            return Reads { size, last: got };
+        let got = input.read(&mut report[size..]);
+        let last = returned(got);
+        if last <= 0 {
+            return Reads { size, last };
         }
-        size += more;
+        size += last as usize;
     }
     let mut byte = [0u8; 1];
-    let last = libc::read(STDIN_FILENO, &mut byte);
+    let last = returned(input.read(&mut byte));
     Reads { size, last }
 }
 
@@ -65,20 +79,17 @@ fn answer_line(report: &[u8], line: &mut [u8]) -> usize
     printing::print_answer(line, checker::check(report))
 }
 
-fn main() {
+fn main(rt: HostRuntime) -> io::Result<()> {
     let mut report: [u8; 65536] = [0; 65536];
-    let reads = read_report(&mut report);
+    let mut input = rt.stdin();
+    let reads = read_report(&mut input, &mut report);
     match input_of(reads.size, reads.last) {
         Input::Report(size) => {
             let mut line = [0u8; printing::LONGEST_LINE];
             let length = answer_line(&report[..size], &mut line);
-            io::write_all(STDOUT_FILENO, &line[..length]);
+            rt.stdout().write_all(&line[..length])
         }
-        Input::TooLong => {
-            io::write_all(STDOUT_FILENO, b"too long\n");
-        }
-        Input::Unreadable => {
-            io::write_all(STDERR_FILENO, b"standard input cannot be read\n");
-        }
+        Input::TooLong => rt.stdout().write_all(b"too long\n"),
+        Input::Unreadable => rt.stderr().write_all(b"standard input cannot be read\n"),
     }
 }

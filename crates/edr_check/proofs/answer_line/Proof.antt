@@ -11,10 +11,10 @@ use Rattle.edr_check.proofs.answer_line.Tie as tie
 check-requires : tie.Need-check-requires
 check-requires c κs = search rules
 
-print-answer-requires : tie.Need-print-answer-requires
+print-answer-requires : tie.Need-print_answer-requires
 print-answer-requires c κs = search rules
 
-same_length : tie.Need-same-length
+same_length : tie.Need-shape_of-line
 same_length c = search rules
 
 returns : tie.Need-returns
@@ -22,7 +22,7 @@ returns c =
     let p = c.before.before in
     let k = p.before in
     let l = k.before.before.before.before.args.line.now in
-    let told = p.print-answer.ensures in
+    let told = p.print_answer.ensures in
     let a = k.check.ensures.0 in
     (told.0 ∙ ap (λ (x : Answer). length (printed x)) a, told.1, told.2 ∙ ap (λ (x : Answer). put 1 (printed x) l) a)
 

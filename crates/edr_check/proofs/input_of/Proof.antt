@@ -38,14 +38,14 @@ read s = to_z w64 (of_z w64 s.args.last)
 same : (s : tie.Start) → input_of s.args.size (read s) ≡ input_of s.args.size s.args.last
 same s = ap (input_of s.args.size) (to_z-of_z s.ranges.last)
 
-returns : tie.Need-returns
-returns c = let s = c.before in below s.args.size (read s) c.if1.true ∙ same s
+returns : tie.Need-returns-then-last-lt0
+returns c = let s = c.before in below s.args.size (read s) c.if-last-lt0.true ∙ same s
 
-returns-2 : tie.Need-returns-2
-returns-2 c = let s = c.before.before in above s.args.size (read s) c.if2.true ∙ same s
+returns-2 : tie.Need-returns-then-last-gt0
+returns-2 c = let s = c.before.before in above s.args.size (read s) c.if-last-gt0.true ∙ same s
 
-returns-3 : tie.Need-returns-3
-returns-3 c = let s = c.before.before in neither s.args.size (read s) c.before.if1.false c.if2.false ∙ same s
+returns-3 : tie.Need-returns
+returns-3 c = let s = c.before.before in neither s.args.size (read s) c.before.if-last-lt0.false c.if-last-gt0.false ∙ same s
 
 pub input_of_spec : {M : Type 1} → statement M
 input_of_spec = tie.close (tie.spec returns returns-2 returns-3)
