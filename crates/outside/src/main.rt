@@ -3,12 +3,14 @@
 
 mod bytes_of;
 
-ghost use Rattle.std.specs.Prelude.{◌≡◌, ℕ, ◌+◌, ◌*◌, ◌/◌, ◌<◌, ◌≤◌, length, set};
+ghost use Rattle.std.specs.Prelude.{◌≡◌, ℕ, ◌+◌, ◌*◌, ◌/◌, ◌<◌, ◌≤◌, length, set, IfOk};
 ghost use Rattle.outside.specs.Cases.{last_of, edited_by, Taken};
 
 use bytes_of::{adler, byte_at, number_at, read_words, words_adler};
 use conversion::Converted;
-use libc::{STDERR_FILENO, STDOUT_FILENO};
+use std::fs::File;
+use std::io::{Read, Stdout, Write};
+use std::{fs, io};
 use writer::Written;
 
 // How many bytes a case takes, and the length of the last report written.
@@ -18,34 +20,40 @@ struct Step {
     written: usize,
 }
 
-fn print_check(report: &[u8]) {
+// A line that cannot be written is missing in what the program prints.
+fn print_bytes(out: Stdout, bytes: &[u8]) {
+    let mut out = out;
+    let _written = out.write_all(bytes).is_ok();
+}
+
+fn print_check(out: Stdout, report: &[u8]) {
     let mut line = [0u8; printing::LONGEST_LINE];
     let size = printing::print_answer(&mut line, checker::check(report));
-    io::write_all(STDOUT_FILENO, &line[..size]);
+    print_bytes(out, &line[..size]);
 }
 
 // A word, a number and the sum of what it is about.
-fn print_sum(word: &[u8], number: u64, sum: u64)
+fn print_sum(out: Stdout, word: &[u8], number: u64, sum: u64)
     requires { length word.now ≤ 8 }
 {
     let mut line = [0u8; printing::LONGEST_LINE];
     let size = printing::print_line(&mut line, word, &[number, sum]);
-    io::write_all(STDOUT_FILENO, &line[..size]);
+    print_bytes(out, &line[..size]);
 }
 
 // Returns the length of the last report written, which is `last` where this one is refused.
-fn print_written(written: Written, buffer: &[u8], last: usize) -> usize
+fn print_written(out: Stdout, written: Written, buffer: &[u8], last: usize) -> usize
     requires { last_of written 0 ≤ length buffer.now }
     ensures { result ≡ last_of written last }
 {
     match written {
         Written::Length(size) => {
-            print_sum(b"written", size as u64, adler(buffer));
-            print_check(&buffer[..size]);
+            print_sum(out, b"written", size as u64, adler(buffer));
+            print_check(out, &buffer[..size]);
             size
         }
         Written::Refused(number) => {
-            print_sum(b"refused", number, adler(buffer));
+            print_sum(out, b"refused", number, adler(buffer));
             last
         }
     }
@@ -75,40 +83,40 @@ fn write_sheet(case: &[u8], sheet: &[u32], buffer: &mut [u8]) -> Written
 }
 
 // Converts a kept sheet, and says whether it is one to write.
-fn convert_sheet(sheet: &mut [u32]) -> bool {
+fn convert_sheet(out: Stdout, sheet: &mut [u32]) -> bool {
     let number = match conversion::convert(sheet) {
         Converted::Done => 0,
         Converted::Refused(number) => number,
     };
-    print_sum(b"words", number, words_adler(sheet));
+    print_sum(out, b"words", number, words_adler(sheet));
     number == 0
 }
 
 // Reads a sheet, and converts it where it is a kept one. Says whether there is one to write.
-fn read_sheet(case: &[u8], sheet: &mut [u32]) -> bool
+fn read_sheet(out: Stdout, case: &[u8], sheet: &mut [u32]) -> bool
     requires { 23 + 4 * length sheet.old ≤ length case.now }
 {
     read_words(&case[23..], sheet);
     if byte_at(case, 0) != b'C' {
         return true;
     }
-    convert_sheet(sheet)
+    convert_sheet(out, sheet)
 }
 
 // Reads and writes a sheet. Returns the length of the last report written.
-fn run_sheet(case: &[u8], sheet: &mut [u32], buffer: &mut [u8], last: usize) -> usize
+fn run_sheet(out: Stdout, case: &[u8], sheet: &mut [u32], buffer: &mut [u8], last: usize) -> usize
     requires { 23 + 4 * length sheet.old ≤ length case.now }
     ensures { (long : ℕ) → last ≤ long → length buffer.old ≤ long → result ≤ long }
 {
-    if !read_sheet(case, sheet) {
+    if !read_sheet(out, case, sheet) {
         return last;
     }
     let answer = write_sheet(case, sheet, buffer);
-    print_written(answer, buffer, last)
+    print_written(out, answer, buffer, last)
 }
 
 // A file to check. Returns how many bytes the case takes: all where it is damaged.
-fn file_case(case: &[u8]) -> usize
+fn file_case(out: Stdout, case: &[u8]) -> usize
     requires { 0 < length case.now }
     ensures { (0 < result) × (result ≤ length case.now) }
 {
@@ -116,12 +124,12 @@ fn file_case(case: &[u8]) -> usize
     if case.len() < end {
         return case.len();
     }
-    print_check(&case[5..end]);
+    print_check(out, &case[5..end]);
     end
 }
 
 // A sheet to write, or a kept one to convert and write, into the first bytes of the buffer.
-fn write_case(case: &[u8], buffer: &mut [u8], last: usize) -> Step
+fn write_case(out: Stdout, case: &[u8], buffer: &mut [u8], last: usize) -> Step
     requires { (0 < length case.now) × (last ≤ length buffer.old) }
     ensures { Taken case.now buffer.old result }
 {
@@ -147,7 +155,7 @@ fn write_case(case: &[u8], buffer: &mut [u8], last: usize) -> Step
             written: last,
         };
     }
-    let written = run_sheet(case, &mut sheet[..count], &mut buffer[..room], last);
+    let written = run_sheet(out, case, &mut sheet[..count], &mut buffer[..room], last);
     Step {
         taken: end,
         written,
@@ -177,7 +185,7 @@ fn edit(edits: &[u8], report: &mut [u8])
 }
 
 // Edits of the last report written. Returns how many bytes the case takes.
-fn edit_case(case: &[u8], report: &mut [u8]) -> usize
+fn edit_case(out: Stdout, case: &[u8], report: &mut [u8]) -> usize
     requires { 0 < length case.now }
     ensures { (0 < result) × (result ≤ length case.now) }
 {
@@ -186,27 +194,27 @@ fn edit_case(case: &[u8], report: &mut [u8]) -> usize
         return case.len();
     }
     edit(&case[5..end], report);
-    print_check(report);
+    print_check(out, report);
     end
 }
 
-fn run_case(case: &[u8], buffer: &mut [u8], last: usize) -> Step
+fn run_case(out: Stdout, case: &[u8], buffer: &mut [u8], last: usize) -> Step
     requires { (0 < length case.now) × (last ≤ length buffer.old) }
     ensures { Taken case.now buffer.old result }
 {
     let kind = byte_at(case, 0);
     if (kind == b'W') | (kind == b'C') {
-        return write_case(case, buffer, last);
+        return write_case(out, case, buffer, last);
     }
     if kind == b'P' {
         return Step {
-            taken: edit_case(case, &mut buffer[..last]),
+            taken: edit_case(out, case, &mut buffer[..last]),
             written: last,
         };
     }
     if kind == b'F' {
         return Step {
-            taken: file_case(case),
+            taken: file_case(out, case),
             written: last,
         };
     }
@@ -216,11 +224,11 @@ fn run_case(case: &[u8], buffer: &mut [u8], last: usize) -> Step
     }
 }
 
-fn run_cases(data: &[u8], buffer: &mut [u8]) {
+fn run_cases(out: Stdout, data: &[u8], buffer: &mut [u8]) {
     let mut at = 0;
     let mut written = 0;
     while at < data.len() {
-        let step = run_case(&data[at..], buffer, written);
+        let step = run_case(out, &data[at..], buffer, written);
         at += step.taken;
         written = step.written;
     }
@@ -247,15 +255,31 @@ fn report_room() -> [u8; 703000]
     [0; 703000]
 }
 
-fn main() {
+// Fills the data from a file as far as both go. Returns how many bytes came.
+fn read_data(file: &mut File, data: &mut [u8]) -> io::Result<usize>
+    ensures { IfOk result (λ n. n ≤ length data.old) }
+{
+    let mut size = 0;
+    while size < data.len() {
+        let more = file.read(&mut data[size..])?;
+        if more == 0 {
+            return Ok(size);
+        }
+        size += more;
+    }
+    Ok(size)
+}
+
+fn main(rt: HostRuntime) -> io::Result<()> {
     let mut data = data_room();
     let mut buffer = report_room();
-    let file = os::open_read(b"cases.bin");
-    if file < 0 {
-        io::write_all(STDERR_FILENO, b"the cases cannot be read\n");
-        return;
-    }
-    let size = io::read_full(file, &mut data);
-    libc::close(file);
-    run_cases(&data[..size], &mut buffer);
+    let mut file = match fs::open(&rt, "cases.bin") {
+        Ok(file) => file,
+        Err(_) => {
+            return rt.stderr().write_all(b"the cases cannot be read\n");
+        }
+    };
+    let size = read_data(&mut file, &mut data)?;
+    run_cases(rt.stdout(), &data[..size], &mut buffer);
+    Ok(())
 }

@@ -5,22 +5,22 @@ use borrow.Author.Rules.{rules}
 use Rattle.outside.proofs.print_check.Statement.{statement}
 use Rattle.outside.proofs.print_check.Tie as tie
 
-slice-aggregate-print-answer : tie.Need-slice-aggregate-print-answer
+slice-aggregate-print-answer : tie.Need-slice_bounds-print_answer-end
 slice-aggregate-print-answer c = search rules
 
 check-requires : tie.Need-check-requires
 check-requires c κs = search rules
 
-print-answer-requires : tie.Need-print-answer-requires
+print-answer-requires : tie.Need-print_answer-size-requires
 print-answer-requires c κs = search rules
 
-array-share-prefix-line : tie.Need-array-share-prefix-line
+array-share-prefix-line : tie.Need-slice_bounds-line-end
 array-share-prefix-line c = search rules
 
-slice-aggregate-write-all : tie.Need-slice-aggregate-write-all
+slice-aggregate-write-all : tie.Need-slice_bounds-print_bytes-end
 slice-aggregate-write-all c = simp length-take (omega arith)
 
-write-all-requires : tie.Need-write-all-requires
+write-all-requires : tie.Need-print_bytes-requires
 write-all-requires c κs = search rules
 
 returns : tie.Need-returns

@@ -5,22 +5,22 @@ use borrow.Author.Rules.{rules}
 use Rattle.outside.proofs.print_sum.Statement.{statement}
 use Rattle.outside.proofs.print_sum.Tie as tie
 
-slice-aggregate-print-line : tie.Need-slice-aggregate-print-line
+slice-aggregate-print-line : tie.Need-slice_bounds-print_line-end
 slice-aggregate-print-line c = search rules
 
-slice-aggregate-print-line-2 : tie.Need-slice-aggregate-print-line-2
+slice-aggregate-print-line-2 : tie.Need-slice_bounds-print_line-end-2
 slice-aggregate-print-line-2 c = search rules
 
-print-line-requires : tie.Need-print-line-requires
+print-line-requires : tie.Need-print_line-size-requires
 print-line-requires c κs = search rules
 
-array-share-prefix-line : tie.Need-array-share-prefix-line
+array-share-prefix-line : tie.Need-slice_bounds-line-end
 array-share-prefix-line c = search rules
 
-slice-aggregate-write-all : tie.Need-slice-aggregate-write-all
+slice-aggregate-write-all : tie.Need-slice_bounds-print_bytes-end
 slice-aggregate-write-all c = simp length-take (omega arith)
 
-write-all-requires : tie.Need-write-all-requires
+write-all-requires : tie.Need-print_bytes-requires
 write-all-requires c κs = search rules
 
 returns : tie.Need-returns

@@ -6,37 +6,37 @@ use borrow.Author.Rules.{rules}
 use Rattle.outside.proofs.run_cases.Statement.{statement}
 use Rattle.outside.proofs.run_cases.Tie as tie
 
-abbrev invariant-loop : tie.invariant-loop
-invariant-loop «data» buffer₀ at₀ written₀ buffer at written = (at ≤ length «data») × (length buffer ≡ length buffer₀) × (written ≤ length buffer₀)
+abbrev invariant-loop : tie.invariant-loop-at
+invariant-loop out «data» buffer₀ at₀ written₀ buffer at written = (at ≤ length «data») × (length buffer ≡ length buffer₀) × (written ≤ length buffer₀)
 
-abbrev decreases-loop : tie.decreases-loop
-decreases-loop «data» buffer₀ at₀ written₀ buffer at written = length «data» - at
+abbrev decreases-loop : tie.decreases-loop-at
+decreases-loop out «data» buffer₀ at₀ written₀ buffer at written = length «data» - at
 
-loop-holds : tie.Need-loop-init invariant-loop decreases-loop
+loop-holds : tie.Need-loop-at-init invariant-loop decreases-loop
 loop-holds c = search rules
 
-sub-run-case : tie.Need-overflow-sub-run-case invariant-loop decreases-loop
+sub-run-case : tie.Need-slice_bounds-run_case-count invariant-loop decreases-loop
 sub-run-case c = search rules
 
-part-run-case-start : tie.Need-slice-bounds-run-case-start invariant-loop decreases-loop
+part-run-case-start : tie.Need-slice_bounds-run_case-start invariant-loop decreases-loop
 part-run-case-start c = search rules
 
-part-run-case-end : tie.Need-slice-bounds-run-case-end invariant-loop decreases-loop
+part-run-case-end : tie.Need-slice_bounds-run_case-end invariant-loop decreases-loop
 part-run-case-end c = search rules
 
-run-case-requires : tie.Need-run-case-requires invariant-loop decreases-loop
+run-case-requires : tie.Need-run_case-step-requires invariant-loop decreases-loop
 run-case-requires c κs = search rules
 
-add_at : tie.Need-overflow-add-at invariant-loop decreases-loop
+add_at : tie.Need-overflow_add-at invariant-loop decreases-loop
 add_at c = search rules
 
-loop-less : tie.Need-loop-smaller invariant-loop decreases-loop
+loop-less : tie.Need-loop-at-smaller invariant-loop decreases-loop
 loop-less c = search rules
 
-loop-again : tie.Need-loop-preserved invariant-loop decreases-loop
+loop-again : tie.Need-loop-at-preserved invariant-loop decreases-loop
 loop-again c = search rules
 
-same_length : tie.Need-same-length invariant-loop decreases-loop
+same_length : tie.Need-shape_of-buffer invariant-loop decreases-loop
 same_length c = search rules
 
 returns : tie.Need-returns invariant-loop decreases-loop

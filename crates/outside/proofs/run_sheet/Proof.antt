@@ -4,34 +4,34 @@ use borrow.Author.Rules.{rules}
 use Rattle.outside.proofs.run_sheet.Statement.{statement}
 use Rattle.outside.proofs.run_sheet.Tie as tie
 
-abbrev written : tie.After-print-written → tie.After-write-sheet
-written c = c.before.before.before.before
+abbrev written : tie.After-print_written → tie.After-write_sheet-answer
+written c = c.before.before.before
 
-read-sheet-requires : tie.Need-read-sheet-requires
+read-sheet-requires : tie.Need-read_sheet-requires
 read-sheet-requires c κs = search rules
 
-same_length : tie.Need-same-length
+same_length : tie.Need-shape_of-sheet-then-not-read_sheet
 same_length c = search rules
 
-returns : tie.Need-returns
+returns : tie.Need-returns-then-not-read_sheet
 returns c = search rules
 
-write-sheet-requires : tie.Need-write-sheet-requires
+write-sheet-requires : tie.Need-write_sheet-answer-requires
 write-sheet-requires c κs = search rules
 
-print-written-requires : tie.Need-print-written-requires
+print-written-requires : tie.Need-print_written-requires
 print-written-requires c κs = search rules
 
-same-length-2 : tie.Need-same-length-2
+same-length-2 : tie.Need-shape_of-sheet
 same-length-2 c = search rules
 
-same-length-3 : tie.Need-same-length-3
+same-length-3 : tie.Need-shape_of-buffer
 same-length-3 c = search rules
 
-returns-2 : tie.Need-returns-2
+returns-2 : tie.Need-returns
 returns-2 c =
-    let w = (written c).write-sheet in
-    λ long h k. rw c.print-written.ensures (last_fits w.result _ _ long w.ensures k h)
+    let w = (written c).write_sheet-answer in
+    λ long h k. rw c.print_written.ensures (last_fits w.result _ _ long w.ensures k h)
 
 pub run_sheet_spec : {M : Type 1} → statement M
 run_sheet_spec =

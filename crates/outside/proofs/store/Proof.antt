@@ -5,18 +5,18 @@ use borrow.Author.Rules.{rules}
 use Rattle.outside.proofs.store.Statement.{statement}
 use Rattle.outside.proofs.store.Tie as tie
 
-returns : tie.Need-returns
+returns : tie.Need-returns-then-report-place
 returns c =
     let x = c.before.args in
-    sym (set_out x.report.now x.place x.byte c.if1.true)
+    sym (set_out x.report.now x.place x.byte c.if-report-place.true)
 
-slice-write-report : tie.Need-slice-write-report
+slice-write-report : tie.Need-bounds-report-place
 slice-write-report c = search rules
 
-same_length : tie.Need-same-length
+same_length : tie.Need-shape_of-report
 same_length c = search rules
 
-returns-2 : tie.Need-returns-2
+returns-2 : tie.Need-returns
 returns-2 c = search rules
 
 pub store_spec : {M : Type 1} → statement M

@@ -5,37 +5,37 @@ use borrow.Author.Rules.{rules}
 use Rattle.outside.proofs.write_sheet.Statement.{statement}
 use Rattle.outside.proofs.write_sheet.Tie as tie
 
-fill-with-requires : tie.Need-fill-with-requires
+fill-with-requires : tie.Need-fill_with-requires
 fill-with-requires c κs = search rules
 
-byte-at-requires : tie.Need-byte-at-requires
+byte-at-requires : tie.Need-byte_at-requires
 byte-at-requires c κs = search rules
 
-byte-at-requires-2 : tie.Need-byte-at-requires-2
+byte-at-requires-2 : tie.Need-byte_at-requires-2
 byte-at-requires-2 c κs = search rules
 
-byte-at-requires-3 : tie.Need-byte-at-requires-3
+byte-at-requires-3 : tie.Need-byte_at-requires-3
 byte-at-requires-3 c κs = search rules
 
-byte-at-requires-4 : tie.Need-byte-at-requires-4
+byte-at-requires-4 : tie.Need-byte_at-requires-4
 byte-at-requires-4 c κs = search rules
 
-byte-at-requires-5 : tie.Need-byte-at-requires-5
+byte-at-requires-5 : tie.Need-byte_at-requires-5
 byte-at-requires-5 c κs = search rules
 
-byte-at-requires-6 : tie.Need-byte-at-requires-6
+byte-at-requires-6 : tie.Need-byte_at-requires-6
 byte-at-requires-6 c κs = search rules
 
-number-at-requires : tie.Need-number-at-requires
+number-at-requires : tie.Need-number_at-requires
 number-at-requires c κs = search rules
 
-number-at-requires-2 : tie.Need-number-at-requires-2
+number-at-requires-2 : tie.Need-number_at-requires-2
 number-at-requires-2 c κs = search rules
 
 write-requires : tie.Need-write-requires
 write-requires c κs = search rules
 
-same_length : tie.Need-same-length
+same_length : tie.Need-shape_of-buffer
 same_length c = search rules
 
 returns : tie.Need-returns
