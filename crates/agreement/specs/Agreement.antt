@@ -10,10 +10,10 @@ use Rattle.layout.specs.Layout.{stack_width, report_length}
 use Rattle.layout.specs.declared.RecordType.TheVariants.{So2Concentration}
 use Rattle.stamp.specs.Stamp.{stamp_of}
 use Rattle.formulas.specs.Hour.{Unrounded, set_of, as_recorded}
-use Rattle.formulas.specs.FormulaLaws.{written_behind}
+use Rattle.formulas.proofs.FormulaLaws.{written_behind}
 use Rattle.formulas.specs.declared.hour.Hour.{Hour}
 use Rattle.totals.specs.Totals.{quarter_totals}
-use Rattle.totals.specs.TotalLaws.{quarter_hours}
+use Rattle.totals.proofs.TotalLaws.{quarter_hours}
 use Rattle.lines.specs.Lines.{lines}
 use Rattle.reading.specs.Idle.{without_idle}
 use Rattle.reading.specs.Recorded.{Line, records_of, hour_count, hours_of}
@@ -21,15 +21,15 @@ use Rattle.judging.specs.Judged.{acceptance}
 use Rattle.judging.specs.Behind.{SetsBehind}
 use Rattle.checker.specs.Checked.{answer_numbers, checked}
 use Rattle.checker.specs.Promise.{HonestlyRounded}
-use Rattle.checker.specs.PromiseLaws.{hours_count, honest_checked}
+use Rattle.checker.proofs.PromiseLaws.{hours_count, honest_checked}
 use Rattle.checker.specs.declared.Answer.TheVariants.{Accepted}
 use Rattle.sheet.specs.Sheet.{recorded_readings, sheet_hour_count, shape_of, sheet_hours}
 use Rattle.sheet.specs.declared.SheetHour.{SheetHour}
 use Rattle.writer.specs.Recorded.{ReportHour, recorded_hour, recorded_hours, report_hours}
 use Rattle.writer.specs.Refusals.{refusal_of}
 use Rattle.writer.specs.Written.{written_number, shortest_report, report, answered, buffered, answered_in, buffered_in}
-use Rattle.writer.specs.TableLaws.{not_refused, number_tells}
-use Rattle.writer.specs.ReportLaws.{report_hours_count, report_shape, report_bytes}
+use Rattle.writer.proofs.TableLaws.{not_refused, number_tells}
+use Rattle.writer.proofs.ReportLaws.{report_hours_count, report_shape, report_bytes}
 use Rattle.writer.specs.declared.Written.TheVariants.{Length, Refused}
 use Rattle.agreement.specs.Reportable.{Reportable, formed}
 use Rattle.agreement.specs.ReportableLaws.{reportable_few, writable_reportable}

@@ -10,20 +10,20 @@ use Rattle.std.proofs.Math.ListN.{get_or}
 use borrow.Author.Tests.{le-leb}
 use Rattle.exact.specs.Faults.{or_zero}
 use Rattle.columns.specs.Bytes.{same}
-use Rattle.columns.specs.BytesLaws.{same_eq}
+use Rattle.columns.proofs.BytesLaws.{same_eq}
 use Rattle.columns.specs.Columns.{columns, put}
-use Rattle.columns.specs.ColumnsLaws.{columns_byte, put_behind, columns_before, columns_back}
+use Rattle.columns.proofs.ColumnsLaws.{columns_byte, put_behind, columns_before, columns_back}
 use Rattle.columns.specs.Number.{number_of}
 use Rattle.columns.specs.Written.{digits_of, written}
-use Rattle.columns.specs.WrittenLaws.{digits_length, written_length}
+use Rattle.columns.proofs.WrittenLaws.{digits_length, written_length}
 use Rattle.columns.specs.Rewritten.{DigitsWritten}
-use Rattle.columns.specs.RewrittenLaws.{digits_written}
+use Rattle.columns.proofs.RewrittenLaws.{digits_written}
 use Rattle.calendar.specs.Calendar.{hours_in_quarter}
 use Rattle.calendar.specs.declared.QuarterHour.TheVariants.{At}
 use Rattle.layout.specs.Layout.{record_of, length_of, stack_width, date_column, date_width, gas_start, gas_word, values_of}
 use Rattle.layout.specs.Values.{year_digits, quarter_digit, so2_ppm, so2_rate, Within}
 use Rattle.layout.specs.LayoutLaws.{date_inside, true_within}
-use Rattle.layout.specs.TypeLaws.{gas_type}
+use Rattle.layout.proofs.TypeLaws.{gas_type}
 use Rattle.stamp.specs.Stamp.{stamp_of}
 use Rattle.stamp.specs.StampLaws.{stamp_length, stamp_names}
 use Rattle.totals.specs.declared.Quarter.{Quarter}
@@ -31,8 +31,8 @@ use Rattle.layout.specs.declared.RecordType.{RecordType}
 use Rattle.layout.specs.declared.RecordType.TheVariants.{Facility, So2Concentration, Operation, QuarterTotals, So2Mass}
 use Rattle.lines.specs.LineFaults.{common_fault, field_in, values_fault, digits_in, facility_fault, facility_line, so2_fault, has_gas, so2_blank, gas_fault, date_on}
 use Rattle.lines.specs.LineFaults.{rising_fault, hour_on, dated_fault, hour_fault, hour_number, hour_line, due_of, date_fault, due_fault, operates, operation_line}
-use Rattle.lines.specs.FaultLaws.{DueRight, so2_right}
-use Rattle.lines.specs.OperationLaws.{operation_said, due_operates, due_operation}
+use Rattle.lines.proofs.FaultLaws.{DueRight, so2_right}
+use Rattle.lines.proofs.OperationLaws.{operation_said, due_operates, due_operation}
 use Rattle.lines.specs.declared.Period.{Period}
 use Rattle.lines.specs.declared.FacilityLine.TheVariants.{Of}
 use Rattle.lines.specs.declared.HourLine.TheVariants.{At as OfHour}
@@ -42,7 +42,7 @@ use Rattle.writer.specs.Recorded.{ReportHour}
 use Rattle.records.specs.Records.{headed, facility_record, hour_values, total_values, totals_record, valued}
 use Rattle.writer.specs.Written.{hour_record}
 use Rattle.records.specs.RecordLaws.{facility_printable, totals_printable}
-use Rattle.writer.specs.LineLaws.{hour_printable}
+use Rattle.writer.proofs.LineLaws.{hour_printable}
 use Rattle.agreement.specs.RecordLaws.{behind_stack, Framed, framed_put, framed_headed, headed_blank, framed_shape, framed_common, framed_valued}
 use Rattle.agreement.specs.RecordLaws.{ValuesWithin, front_columns, ordered, valued_before, valued_right}
 

@@ -6,5 +6,4 @@ pub mod ReportLaws
 pub mod ReadBackLaws
 pub mod Agreement
 pub mod Recorder
-pub mod Examples
 pub mod TwoHours

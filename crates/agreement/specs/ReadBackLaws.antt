@@ -18,7 +18,7 @@ use Rattle.layout.specs.declared.RecordType.{RecordType}
 use Rattle.layout.specs.declared.RecordType.TheVariants.{So2Concentration, NoxConcentration, Co2Concentration, VolumetricFlow, Operation}
 use Rattle.layout.specs.declared.RecordType.TheVariants.{QuarterTotals, So2Mass, NoxRate, Co2Mass}
 use Rattle.layout.specs.LayoutLaws.{thousands_back}
-use Rattle.totals.specs.TotalLaws.{quarter_hours}
+use Rattle.totals.proofs.TotalLaws.{quarter_hours}
 use Rattle.lines.specs.Lines.{lines}
 use Rattle.lines.specs.LineFaults.{type_is, field_in, operates, has_gas}
 use Rattle.reading.specs.Idle.{without_idle}
@@ -33,7 +33,7 @@ use Rattle.writer.specs.Recorded.{ReportHour, recorded_hours}
 use Rattle.records.specs.Records.{headed, hour_values, total_values, totals_record}
 use Rattle.writer.specs.Writable.{HourWritable}
 use Rattle.writer.specs.Written.{hour_record, written_records, report}
-use Rattle.writer.specs.ReportLaws.{hour_records, records_count}
+use Rattle.writer.proofs.ReportLaws.{hour_records, records_count}
 use Rattle.agreement.specs.Reportable.{AllWritable, AllMonitored, formed}
 use Rattle.agreement.specs.RecordLaws.{framed_headed, value_back}
 use Rattle.agreement.specs.HourRecordLaws.{stamped, stamped_framed, hour_date, hour_operates, no_gas}

@@ -7,20 +7,20 @@ use mathlib.Core.List.{List, [], ◌∷◌}
 use Rattle.std.proofs.Math.ListN.{length, replicate, length-replicate, get_or-replicate}
 use borrow.Author.Tests.{eq-eqb, leb-true, ltb-true}
 use Rattle.columns.specs.Bytes.{is_printable, all}
-use Rattle.columns.specs.BytesLaws.{same_eq}
+use Rattle.columns.proofs.BytesLaws.{same_eq}
 use Rattle.columns.specs.Columns.{columns, put}
-use Rattle.columns.specs.ColumnsLaws.{put_length, put_behind, columns_before, columns_back}
+use Rattle.columns.proofs.ColumnsLaws.{put_length, put_behind, columns_before, columns_back}
 use Rattle.columns.specs.Number.{field_of, digits_held, fewest_columns}
 use Rattle.columns.specs.Written.{written}
-use Rattle.columns.specs.WrittenLaws.{digits_length}
+use Rattle.columns.proofs.WrittenLaws.{digits_length}
 use Rattle.columns.specs.Rewritten.{NumberWritten}
-use Rattle.columns.specs.RewrittenLaws.{number_written}
+use Rattle.columns.proofs.RewrittenLaws.{number_written}
 use Rattle.columns.specs.declared.Field.TheVariants.{Number}
 use Rattle.exact.specs.Logic.{both}
 use Rattle.layout.specs.Layout.{code_of, length_of, type_start, type_width, type_digits, stack_start, stack_width, date_column, date_width, values_of}
 use Rattle.layout.specs.Values.{no_value, Within}
 use Rattle.layout.specs.LayoutLaws.{each, length_least}
-use Rattle.lines.specs.FaultLaws.{field_right}
+use Rattle.lines.proofs.FaultLaws.{field_right}
 use Rattle.layout.specs.declared.values.Value.{Value}
 use Rattle.layout.specs.declared.RecordType.{RecordType}
 use Rattle.lines.specs.LineFaults.{type_is, shape_fault, stack_of, stack_fault, common_fault, field_in, values_fault}

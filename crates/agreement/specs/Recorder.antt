@@ -4,7 +4,7 @@ use Rattle.std.specs.Prelude.{ℕ, ◌≡◌, List, [], ◌∷◌, map}
 use Rattle.std.proofs.Common.{ap}
 use Rattle.formulas.specs.Hour.{Monitored, Unrounded, set_of}
 use Rattle.formulas.specs.Formulas.{hour_from}
-use Rattle.formulas.specs.FormulaLaws.{recorded_behind}
+use Rattle.formulas.proofs.FormulaLaws.{recorded_behind}
 use Rattle.totals.specs.Totals.{quarter_totals}
 use Rattle.judging.specs.Judged.{acceptance}
 use Rattle.judging.specs.Behind.{SetsBehind}

@@ -7,7 +7,7 @@ use Rattle.std.proofs.Math.Logic.{⊎_elim}
 use native.Mathlib.Omega.{arith}
 use Rattle.std.proofs.lemmas.List.{length-map}
 use Rattle.columns.specs.Bytes.{is_printable, all}
-use Rattle.columns.specs.BytesLaws.{all_head, all_tail}
+use Rattle.columns.proofs.BytesLaws.{all_head, all_tail}
 use Rattle.calendar.specs.Calendar.{most_hours}
 use Rattle.layout.specs.Layout.{date_column, stack_width, values_of, order, shape, joined_runs}
 use Rattle.exact.specs.Logic.{All}
@@ -15,15 +15,15 @@ use Rattle.layout.specs.declared.RecordType.{RecordType}
 use Rattle.layout.specs.declared.RecordType.TheVariants.{Facility, So2Concentration, NoxConcentration, Co2Concentration, VolumetricFlow, Operation}
 use Rattle.layout.specs.declared.RecordType.TheVariants.{QuarterTotals, So2Mass, NoxRate, Co2Mass}
 use Rattle.formulas.specs.Hour.{HourWithin, HoursWithin}
-use Rattle.totals.specs.FitLaws.{totals_fit}
+use Rattle.totals.proofs.FitLaws.{totals_fit}
 use Rattle.lines.specs.Lines.{onto, lines, last}
 use Rattle.lines.specs.LineFaults.{type_is}
 use Rattle.columns.specs.Columns.{columns}
-use Rattle.lines.specs.FaultLaws.{facility_said, hour_said_lem, right_due}
-use Rattle.lines.specs.OperationLaws.{said_operating}
+use Rattle.lines.proofs.FaultLaws.{facility_said, hour_said_lem, right_due}
+use Rattle.lines.proofs.OperationLaws.{said_operating}
 use Rattle.lines.specs.RightLine.{RightListed}
-use Rattle.lines.specs.RightLaws.{facility_right, hour_right, due_says, RightTime, operation_right}
-use Rattle.lines.specs.RightLaws.RightTime.{runs}
+use Rattle.lines.proofs.RightLaws.{facility_right, hour_right, due_says, RightTime, operation_right}
+use Rattle.lines.proofs.RightLaws.RightTime.{runs}
 use Rattle.lines.specs.declared.Period.{Period}
 use Rattle.reading.specs.RightFile.{RightHours, RightRun, RightOperations, RightFile}
 use Rattle.reading.specs.RightFile.RightOperations.{done, operating}
@@ -32,7 +32,7 @@ use Rattle.sheet.specs.SheetTests.{Heading}
 use Rattle.writer.specs.Recorded.{ReportHour, recorded_hours}
 use Rattle.records.specs.Records.{ended, facility_record, hour_values, total_values, totals_record}
 use Rattle.writer.specs.Written.{hour_record, written_records, lined, report}
-use Rattle.writer.specs.ReportLaws.{records_each, records_printable}
+use Rattle.writer.proofs.ReportLaws.{records_each, records_printable}
 use Rattle.agreement.specs.Reportable.{AllWritable, Rising, formed}
 use Rattle.agreement.specs.RecordLaws.{framed_type, ValuesWithin}
 use Rattle.agreement.specs.HourRecordLaws.{facility, period, facility_framed, facility_named, hour_framed, hour_due_lem, hour_named, operation_named}

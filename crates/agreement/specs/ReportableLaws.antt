@@ -7,7 +7,7 @@ use Rattle.calendar.specs.CalendarLaws.{hours_in_quarter_lem}
 use Rattle.layout.specs.Layout.{stack_width}
 use Rattle.sheet.specs.Sheet.{sheet_hour_count, sheet_hour, sheet_hours, sheet_hours_in}
 use Rattle.sheet.specs.SheetTests.{hours_rise}
-use Rattle.sheet.specs.TestLaws.{rise_first}
+use Rattle.sheet.proofs.TestLaws.{rise_first}
 use Rattle.sheet.specs.declared.SheetHour.{SheetHour}
 use Rattle.writer.specs.Recorded.{ReportHour, report_hour, report_hours}
 use Rattle.writer.specs.Writable.{HourWritable, Writable}

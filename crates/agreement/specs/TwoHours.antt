@@ -27,11 +27,11 @@ use Rattle.reading.specs.Reading.{run_of, runs_of, walk_due, end_operations, wal
 use Rattle.reading.specs.Recorded.{lines_with, idle, records_of, value_on, hour_at, hours_of, totals_in}
 use Rattle.judging.specs.Judged.{judged_hours, compared_totals, judged_quarter}
 use Rattle.checker.specs.Checked.{answer_numbers, judged, after_reading, checked}
-use Rattle.checker.specs.Examples.{Damage, all_named}
+use Rattle.checker.proofs.Examples.{Damage, all_named}
 use Rattle.sheet.specs.Sheet.{sheet_hour_in, sheet_hours_in}
 use Rattle.sheet.specs.SheetTests.{every, heading_holds, hour_holds, hours_rise, readings_hold_in, kinds_rise_in, kinds_hold_in, sheet_holds_in}
 use Rattle.records.specs.Records.{headed, valued, facility_record, totals_record}
-use Rattle.writer.specs.Examples.{stack, sheet_with}
+use Rattle.writer.proofs.Examples.{stack, sheet_with}
 use Rattle.writer.specs.Refusals.{figures_hold, refusal_in}
 use Rattle.writer.specs.Written.{hour_record, written_records, lined, report, answered, buffered, buffered_in, answered_in}
 use Rattle.writer.specs.declared.Written.TheVariants.{Length}

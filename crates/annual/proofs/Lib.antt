@@ -1,1 +1,5 @@
 pub mod Tests
+pub mod AlwaysLaws
+pub mod Examples
+pub mod JoinedLaws
+pub mod YearLaws

@@ -11,12 +11,12 @@ use Rattle.exact.specs.Faults.{◌or_else◌, unless, first_failing}
 use Rattle.formulas.specs.Formulas.{passes_test}
 use Rattle.formulas.specs.declared.hour.Hour.{Hour}
 use Rattle.totals.specs.Totals.{Room, no_totals, with_hour, running_totals, totals_of, quarter_of, quarter_totals}
-use Rattle.totals.specs.TotalLaws.{grown_hours, running_totals_lem, running_next, running_end, quarter_formed}
+use Rattle.totals.proofs.TotalLaws.{grown_hours, running_totals_lem, running_next, running_end, quarter_formed}
 use Rattle.totals.specs.declared.Totals.{Totals}
 use Rattle.totals.specs.declared.Quarter.{Quarter}
 use Rattle.layout.specs.declared.Shape.{Shape}
 use Rattle.judging.specs.Judged.{figure_count, figure_at, Tried, figures_tried, failed_at, failed_or, failure_of, judged_hours, compared_totals, judged_quarter}
-use Rattle.judging.specs.JudgedLaws.{drop_figure, figure_some}
+use Rattle.judging.proofs.JudgedLaws.{drop_figure, figure_some}
 use Rattle.judging.specs.declared.Verdict.{Verdict}
 use Rattle.reading.specs.Recorded.{hour_count, hour_at, hours_of, totals_in}
 use Rattle.reading.specs.Places.{Standing, operating_place}

@@ -1,10 +1,5 @@
 pub mod Checked
 pub mod Judging
-pub mod JudgingLaws
 pub mod Promise
-pub mod PromiseLaws
 pub mod Idle
-pub mod IdleLaws
 pub mod Table
-pub mod TableLaws
-pub mod Examples

@@ -1,7 +1,7 @@
 -- What is found block by block decides as the whole does.
 use Rattle.std.proofs.Common.{◌≡◌, ℕ, zero, suc, ◌+◌, ◌≤◌, Bool, true, false, List, [], ◌∷◌, take, drop, sym, refl, ◌∙◌, suc-add, zero-add, arith}
 use Rattle.columns.specs.Bytes.{all}
-use Rattle.columns.specs.BytesLaws.{all_cons, all_head, all_tail, all_take, all_drop}
+use Rattle.columns.proofs.BytesLaws.{all_cons, all_head, all_tail, all_take, all_drop}
 
 module _ (p : ℕ → Bool) where
   -- n more behind the first i

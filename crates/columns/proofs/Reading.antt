@@ -2,12 +2,12 @@
 use Rattle.std.proofs.Common.{◌≡◌, ℕ, suc, ◌+◌, ◌-◌, ◌*◌, ◌^◌, ◌<◌, ◌≤◌, Bool, true, false, ◌&&◌, eqb, leb, List, ◌∷◌, length, get_or, take, drop, sym, refl, ap, ◌∙◌, mul-le-mul_right, mul-le-mul_left, pow-suc, add-one, arith, lit<, length-drop, drop_of_length-le, length-take-le, drop-cons, pow-add, eq-eqb, ne_eqb, le-leb}
 use native.Mathlib.Nat.{add-sub_cancel_left, one-le-pow, pow-le-pow_right}
 use borrow.Author.Tests.{lt-leb}
-use Rattle.columns.specs.ColumnsLaws.{part_end}
+use Rattle.columns.proofs.ColumnsLaws.{part_end}
 use Rattle.columns.specs.Bytes.{is_blank, is_digit, is_printable, all, same}
 use Rattle.columns.specs.Number.{point_in, digits_from, whole_of, decimals_behind, fixed_of}
 use Rattle.columns.specs.Columns.{columns}
-use Rattle.columns.specs.NumberLaws.{whole_bound}
-use Rattle.columns.specs.BytesLaws.{same_eq}
+use Rattle.columns.proofs.NumberLaws.{whole_bound}
+use Rattle.columns.proofs.BytesLaws.{same_eq}
 use Rattle.columns.specs.declared.Field.TheVariants.{Blank, Malformed, Number}
 
 -- a byte and a range

@@ -4,7 +4,7 @@ use mathlib.Core.Path.{◌≡◌, refl, sym, ◌∙◌}
 use mathlib.Core.List.{List}
 use Rattle.conversion.specs.Conversion.{conversion_refusal, recoded_from, converted, conversion_answer, converted_number}
 use Rattle.conversion.specs.ConversionPromise.{ConversionPromise}
-use Rattle.conversion.specs.SameReportLaws.{kept_promise, new_promise}
+use Rattle.conversion.proofs.SameReportLaws.{kept_promise, new_promise}
 use Rattle.conversion.specs.declared.Converted.{Converted}
 use Rattle.conversion.specs.declared.Converted.TheVariants.{Done, Refused}
 

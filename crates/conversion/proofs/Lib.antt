@@ -1,2 +1,5 @@
 pub mod Words
 pub mod Answer
+pub mod ConversionLaws
+pub mod Examples
+pub mod SameReportLaws

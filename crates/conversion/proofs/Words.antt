@@ -9,7 +9,7 @@ use Rattle.exact.specs.Faults.{◌or_else◌, unless}
 use Rattle.calendar.specs.Calendar.{most_hours}
 use Rattle.sheet.specs.Sheet.{hour_words, sheet_hour_count}
 use Rattle.conversion.specs.Conversion.{kind_right, flow_right, each_word, conversion_refusal}
-use Rattle.conversion.specs.ConversionLaws.{each_next}
+use Rattle.conversion.proofs.ConversionLaws.{each_next}
 
 pub told : (sheet : List ℕ) {whole few kinds flows : Bool} → eqb (length sheet % hour_words) 0 ≡ whole → leb (sheet_hour_count sheet) most_hours ≡ few →
     each_word kind_right 0 sheet ≡ kinds → each_word flow_right 0 sheet ≡ flows →

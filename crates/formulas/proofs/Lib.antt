@@ -1,1 +1,4 @@
 pub mod Equations
+pub mod FormulaLaws
+pub mod ReducedLaws
+pub mod WorkedRows

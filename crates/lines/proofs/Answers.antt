@@ -15,7 +15,7 @@ use Rattle.lines.specs.LineFaults.{shape_fault, stack_of, common_fault, digits_i
 use Rattle.lines.specs.LineFaults.{rising_fault, hour_on, hour_in, dated_fault, hour_said, dated_line, hour_fault, hour_line}
 use Rattle.lines.specs.LineFaults.{operates, timed_fault, operation_fault, said_of, operation_line}
 use Rattle.lines.specs.Beginning.{stamped_line, operating_at}
-use Rattle.lines.specs.FaultLaws.{said_hour, said_fault, dated_shape}
+use Rattle.lines.proofs.FaultLaws.{said_hour, said_fault, dated_shape}
 use Rattle.lines.specs.Lines.{first_line}
 use Rattle.lines.proofs.Shapes.{line_known, line_length_lem}
 use Rattle.lines.specs.declared.HourLine.{HourLine}

@@ -5,3 +5,12 @@ pub mod Values
 pub mod Answers
 pub mod Rows
 pub mod Pictures
+pub mod ClauseLaws
+pub mod EndLaws
+pub mod Examples
+pub mod FaultLaws
+pub mod LineLaws
+pub mod OperationLaws
+pub mod PictureExamples
+pub mod RightLaws
+pub mod WidthExamples

@@ -9,30 +9,30 @@ use lib.Dec.{ltb}
 use borrow.Author.Tests.{eq-eqb, lt-ltb}
 use Rattle.exact.specs.Logic.{clash, both}
 use Rattle.columns.specs.Bytes.{is_printable, all, same}
-use Rattle.columns.specs.BytesLaws.{same_eq}
+use Rattle.columns.proofs.BytesLaws.{same_eq}
 use Rattle.columns.specs.Columns.{columns}
-use Rattle.columns.specs.ColumnsLaws.{columns_length, columns_part}
+use Rattle.columns.proofs.ColumnsLaws.{columns_length, columns_part}
 use Rattle.columns.specs.Number.{field_of, number_of}
-use Rattle.columns.specs.NumberLaws.{field_bound}
+use Rattle.columns.proofs.NumberLaws.{field_bound}
 use Rattle.columns.specs.Worth.{worth_of}
-use Rattle.columns.specs.WorthLaws.{worth_number}
+use Rattle.columns.proofs.WorthLaws.{worth_number}
 use Rattle.columns.specs.Picture.{Fits}
-use Rattle.columns.specs.PictureLaws.{fits_printable, fits_plain, field_number}
+use Rattle.columns.proofs.PictureLaws.{fits_printable, fits_plain, field_number}
 use Rattle.columns.specs.declared.Field.{Field}
 use Rattle.columns.specs.declared.Field.TheVariants.{Malformed, Number}
 use Rattle.layout.specs.Layout.{length_of, date_column, type_width, type_digits, stack_start, stack_width, values_of, value_at}
 use Rattle.layout.specs.Values.{no_value, is_free, Within, time_hours, listed_time, heat_rate}
 use Rattle.layout.specs.LayoutLaws.{length_least, within_true, free_within}
-use Rattle.layout.specs.ValueLaws.{value_inside}
+use Rattle.layout.proofs.ValueLaws.{value_inside}
 use Rattle.layout.specs.Pictures.{picture_of}
-use Rattle.layout.specs.PictureLaws.{picture_length, picture_printable, picture_type, picture_plain, picture_field}
+use Rattle.layout.proofs.PictureLaws.{picture_length, picture_printable, picture_type, picture_plain, picture_field}
 use Rattle.layout.specs.declared.values.Value.{Value}
 use Rattle.layout.specs.declared.RecordType.{RecordType}
 use Rattle.layout.specs.declared.RecordType.TheVariants.{Operation}
 use Rattle.lines.specs.Lines.{first_line}
 use Rattle.lines.specs.LineFaults.{type_is, shape_fault, stack_of, stack_fault, common_fault, field_fault, field_in, values_fault, date_fault}
 use Rattle.lines.specs.LineFaults.{time_in, operates, operating_fault, timed_fault}
-use Rattle.lines.specs.FaultLaws.{field_right, common_shape}
+use Rattle.lines.proofs.FaultLaws.{field_right, common_shape}
 use Rattle.lines.specs.Beginning.{is_line}
 use Rattle.lines.specs.Pictured.{NumbersIn, Pictured, OperatingLine, number_holds, limited, all_hold, ranges_hold}
 use Rattle.lines.proofs.Shapes.{type_bytes, line_alone, line_known, line_length_lem}

@@ -7,7 +7,7 @@ use native.Mathlib.Omega.{arith}
 use lib.ListN.{length, take}
 use Rattle.layout.specs.Layout.{record_of, row_of, length_of, date_column, date_width}
 use Rattle.layout.specs.LayoutLaws.{date_fits}
-use Rattle.layout.specs.TypeLaws.{gas_type}
+use Rattle.layout.proofs.TypeLaws.{gas_type}
 use Rattle.layout.specs.declared.Row.{Row}
 use Rattle.layout.specs.declared.RecordType.{RecordType}
 use Rattle.layout.specs.declared.RecordType.TheVariants.{So2Concentration, So2Mass}

@@ -11,15 +11,15 @@ use lib.ListN.{length, take, drop, get_or, length-take, drop_of_length-le, get_o
 use lib.Seq.{drop-cons, length-take-le}
 use borrow.Author.Tests.{eq-eqb, ne_eqb, eqb-true}
 use Rattle.columns.specs.Bytes.{is_digit, is_printable, all, same}
-use Rattle.columns.specs.BytesLaws.{same_eq, all_head, all_tail}
-use Rattle.columns.specs.WrittenLaws.{digits_length, digits_all_digits}
+use Rattle.columns.proofs.BytesLaws.{same_eq, all_head, all_tail}
+use Rattle.columns.proofs.WrittenLaws.{digits_length, digits_all_digits}
 use Rattle.layout.specs.Layout.{code_of, length_of, type_width, type_digits}
 use Rattle.layout.specs.declared.RecordType.{RecordType}
 use Rattle.lines.specs.Lines.{first_line}
-use Rattle.lines.specs.LineLaws.{first_take}
+use Rattle.lines.proofs.LineLaws.{first_take}
 use Rattle.exact.specs.Faults.{unless}
 use Rattle.lines.specs.LineFaults.{type_is, shape_fault}
-use Rattle.lines.specs.FaultLaws.{shape_length}
+use Rattle.lines.proofs.FaultLaws.{shape_length}
 use Rattle.lines.specs.Beginning.{is_line}
 
 module _ (l : List ℕ) (i : ℕ) (inside : i < length l) where

@@ -12,7 +12,7 @@ use Rattle.columns.specs.Bytes.{same}
 use Rattle.columns.specs.Columns.{columns}
 use Rattle.layout.specs.Layout.{date_width, value_count, values_of, value_at}
 use Rattle.layout.specs.Values.{ranged_value}
-use Rattle.layout.specs.ValueLaws.{value_count_lem, value_of}
+use Rattle.layout.proofs.ValueLaws.{value_count_lem, value_of}
 use Rattle.layout.specs.declared.RecordType.{RecordType}
 use Rattle.layout.specs.declared.values.Value.{Value}
 use Rattle.exact.specs.Faults.{◌or_else◌, unless, or_first, or_next}

@@ -1,15 +1,6 @@
 pub mod Lines
-pub mod LineLaws
-pub mod EndLaws
 pub mod LineFaults
-pub mod FaultLaws
-pub mod OperationLaws
 pub mod Beginning
-pub mod Examples
 pub mod RightLine
-pub mod RightLaws
-pub mod WidthExamples
 pub mod Clauses
-pub mod ClauseLaws
 pub mod Pictured
-pub mod PictureExamples

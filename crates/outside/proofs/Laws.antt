@@ -8,7 +8,7 @@ use lib.ListN.{length, take, drop, set, get_or, replicate, length-replicate, dro
 use lib.Seq.{drop-cons, take-suc-set}
 use Rattle.layout.specs.Layout.{report_length}
 use Rattle.writer.specs.Refusals.{refusal_of}
-use Rattle.writer.specs.TableLaws.{not_refused}
+use Rattle.writer.proofs.TableLaws.{not_refused}
 use Rattle.sheet.specs.Sheet.{shape_of}
 use Rattle.writer.specs.Written.{answered, answered_in}
 use Rattle.writer.specs.declared.Written.{Written}

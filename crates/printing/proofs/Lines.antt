@@ -7,7 +7,7 @@ use native.Mathlib.Numerals.{add-one}
 use lib.ListN.{length, drop, get_or, length-append, drop_of_length-le}
 use lib.Seq.{drop-cons}
 use Rattle.columns.specs.Columns.{put}
-use Rattle.columns.specs.ColumnsLaws.{put_beside}
+use Rattle.columns.proofs.ColumnsLaws.{put_beside}
 use Rattle.printing.specs.Printed.{spaced, all_spaced, printed_line}
 
 -- the numbers from place i on, and the end of the line

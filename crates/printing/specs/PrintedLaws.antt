@@ -3,7 +3,7 @@ use Rattle.std.specs.Prelude.{ℕ, zero, suc, ◌*◌, ◌/◌, ◌≤◌, ◌<�
 use Rattle.std.proofs.Common.{arith, pow-suc, lt-ltb, le-ltb}
 use Rattle.std.proofs.Math.Decide.{dec_lt}
 use Rattle.columns.specs.Number.{digits_only}
-use Rattle.columns.specs.WrittenLaws.{read_digits_written}
+use Rattle.columns.proofs.WrittenLaws.{read_digits_written}
 use Rattle.columns.specs.declared.Field.TheVariants.{Number}
 use Rattle.printing.specs.Printed.{digit_count_in, digit_count, decimal_of}
 

@@ -14,10 +14,10 @@ use Rattle.columns.specs.Columns.{columns}
 use Rattle.layout.specs.Layout.{length_of}
 use Rattle.layout.specs.declared.RecordType.TheVariants.{Operation}
 use Rattle.lines.specs.Lines.{first_line, lines}
-use Rattle.lines.specs.LineLaws.{lines_at_lem, line_part}
+use Rattle.lines.proofs.LineLaws.{lines_at_lem, line_part}
 use Rattle.lines.specs.LineFaults.{type_is, operation_line}
-use Rattle.lines.specs.FaultLaws.{shape_length, dated_rises}
-use Rattle.lines.specs.OperationLaws.{Said, said_operating, said_idle, operation_dated, operation_shape, operating_left}
+use Rattle.lines.proofs.FaultLaws.{shape_length, dated_rises}
+use Rattle.lines.proofs.OperationLaws.{Said, said_operating, said_idle, operation_dated, operation_shape, operating_left}
 use Rattle.lines.specs.declared.Period.{Period}
 use Rattle.lines.specs.declared.operation.OperationLine.{OperationLine}
 use Rattle.lines.specs.declared.operation.OperationLine.TheVariants.{Operating, Idle, Faulty}

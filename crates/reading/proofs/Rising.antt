@@ -10,9 +10,9 @@ use Rattle.calendar.specs.Calendar.{most_hours, IsQuarter}
 use Rattle.layout.specs.Layout.{length_of}
 use Rattle.layout.specs.declared.RecordType.TheVariants.{Facility, So2Concentration}
 use Rattle.lines.specs.Lines.{first_line, lines}
-use Rattle.lines.specs.LineLaws.{lines_at_lem, line_at, line_part}
+use Rattle.lines.proofs.LineLaws.{lines_at_lem, line_at, line_part}
 use Rattle.lines.specs.LineFaults.{type_is, hour_in, hour_fault, hour_line}
-use Rattle.lines.specs.FaultLaws.{shape_length, hour_shape, hour_rises, hour_said_lem}
+use Rattle.lines.proofs.FaultLaws.{shape_length, hour_shape, hour_rises, hour_said_lem}
 use Rattle.lines.specs.declared.Period.{Period}
 use Rattle.lines.specs.declared.HourLine.{HourLine}
 use Rattle.lines.specs.declared.HourLine.TheVariants.{At, Faulty}

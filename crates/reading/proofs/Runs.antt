@@ -9,7 +9,7 @@ use native.Mathlib.Numerals.{add-one}
 use lib.ListN.{length, take, drop, get_or, length-map, drop_of_length-le, get_or-map, length-drop}
 use lib.Seq.{drop-cons, get_or-take, length-take-le}
 use Rattle.layout.specs.Layout.{once_or_dated, record_of, length_of, date_column, order, type_at, count_of, shape}
-use Rattle.layout.specs.RunLaws.{once_or_dated_lem, undated_once, dated_run, dated_count}
+use Rattle.layout.proofs.RunLaws.{once_or_dated_lem, undated_once, dated_run, dated_count}
 use Rattle.layout.specs.declared.RecordType.{RecordType}
 use Rattle.layout.specs.declared.RecordType.TheVariants.{Facility, So2Concentration}
 use Rattle.layout.specs.declared.Run.{Run}

@@ -11,9 +11,9 @@ use Rattle.layout.specs.Values.{quarter_digit, Within}
 use Rattle.layout.specs.declared.RecordType.TheVariants.{Facility}
 use Rattle.stamp.specs.StampLaws.{is_quarter_lem}
 use Rattle.lines.specs.Lines.{first_line, lines, last}
-use Rattle.lines.specs.LineLaws.{lines_at_lem, line_at, line_part}
+use Rattle.lines.proofs.LineLaws.{lines_at_lem, line_at, line_part}
 use Rattle.lines.specs.LineFaults.{period_on, facility_fault, facility_line}
-use Rattle.lines.specs.FaultLaws.{shape_length, facility_shape, facility_quarter, facility_said}
+use Rattle.lines.proofs.FaultLaws.{shape_length, facility_shape, facility_quarter, facility_said}
 use Rattle.lines.specs.declared.Period.{Period}
 use Rattle.lines.specs.declared.FacilityLine.{FacilityLine}
 use Rattle.lines.specs.declared.FacilityLine.TheVariants.{Of, Faulty}

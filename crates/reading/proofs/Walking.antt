@@ -7,9 +7,9 @@ use lib.ListN.{length, take, drop, length-drop, drop_of_length-le}
 use Rattle.layout.specs.Layout.{length_of, order, type_at, count_of, shape}
 use Rattle.layout.specs.declared.RecordType.{RecordType}
 use Rattle.lines.specs.Lines.{first_line, lines}
-use Rattle.lines.specs.LineLaws.{lines_at_lem, line_part}
+use Rattle.lines.proofs.LineLaws.{lines_at_lem, line_part}
 use Rattle.lines.specs.LineFaults.{Due, due_of, due_fault}
-use Rattle.lines.specs.FaultLaws.{shape_length, due_shape}
+use Rattle.lines.proofs.FaultLaws.{shape_length, due_shape}
 use Rattle.reading.specs.Reading.{stopped_at, run_of, runs_of, After, walk_due, walk_end}
 use Rattle.reading.specs.Places.{facility_of, hour_lines_in, hour_due}
 use Rattle.reading.specs.Passages.{Here, PassesRuns, led, on_at, halted_at}

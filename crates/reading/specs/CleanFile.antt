@@ -20,11 +20,11 @@ use Rattle.layout.specs.declared.RecordType.TheVariants.{Facility, So2Concentrat
 use Rattle.layout.specs.declared.RecordType.TheVariants.{QuarterTotals, So2Mass, NoxRate, Co2Mass}
 use Rattle.layout.specs.declared.Shape.{Shape}
 use Rattle.formulas.specs.Hour.{HourWithin, as_recorded}
-use Rattle.formulas.specs.FormulaLaws.{flow_exact}
+use Rattle.formulas.proofs.FormulaLaws.{flow_exact}
 use Rattle.lines.specs.Lines.{lines}
-use Rattle.lines.specs.LineLaws.{lines_at_lem}
+use Rattle.lines.proofs.LineLaws.{lines_at_lem}
 use Rattle.lines.specs.LineFaults.{type_is, hour_in, operates}
-use Rattle.lines.specs.RightLaws.{right_shape}
+use Rattle.lines.proofs.RightLaws.{right_shape}
 use Rattle.reading.specs.Recorded.{Line, lines_with, record_at, value_on, hour_at}
 use Rattle.reading.specs.Places.{Rising, lines_at, numbered, having, line_at, Standing, hour_start, hour_line_in}
 use Rattle.reading.specs.RecordedLaws.{record_runs}

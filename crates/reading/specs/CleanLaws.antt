@@ -8,16 +8,16 @@ use Rattle.std.proofs.Math.Decide.{dec_lt}
 use Rattle.exact.specs.Sums.{total_of}
 use Rattle.std.proofs.Math.ListN.{length, take}
 use Rattle.layout.specs.Layout.{length_of, order, earlier, later, count_of, bytes_of, offset_of}
-use Rattle.layout.specs.PlaceLaws.{order_split, front_bytes}
+use Rattle.layout.proofs.PlaceLaws.{order_split, front_bytes}
 use Rattle.layout.specs.declared.RecordType.{RecordType}
 use Rattle.layout.specs.declared.Shape.{Shape}
 use Rattle.lines.specs.Lines.{first_line, lines, last}
-use Rattle.lines.specs.LineLaws.{lines_at_lem, line_at}
+use Rattle.lines.proofs.LineLaws.{lines_at_lem, line_at}
 use Rattle.lines.specs.LineFaults.{type_is, shape_fault, Due, due_of, due_fault}
-use Rattle.lines.specs.FaultLaws.{shape_type, shape_length, ValuesRight, values_right, due_shape, due_right, ValuesFormed, values_formed}
-use Rattle.lines.specs.EndLaws.{line_within}
+use Rattle.lines.proofs.FaultLaws.{shape_type, shape_length, ValuesRight, values_right, due_shape, due_right, ValuesFormed, values_formed}
+use Rattle.lines.proofs.EndLaws.{line_within}
 use Rattle.lines.specs.RightLine.{RightDue}
-use Rattle.lines.specs.RightLaws.{says_due}
+use Rattle.lines.proofs.RightLaws.{says_due}
 use Rattle.reading.specs.RightFile.{RightRun}
 use Rattle.reading.specs.Reading.{stopped_at, After, walk_due, walk_end, walk, read_of}
 use Rattle.reading.specs.Recorded.{idle}

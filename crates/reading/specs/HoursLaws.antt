@@ -11,8 +11,8 @@ use Rattle.layout.specs.Layout.{length_of}
 use Rattle.layout.specs.declared.RecordType.TheVariants.{So2Concentration}
 use Rattle.lines.specs.Lines.{lines, last}
 use Rattle.lines.specs.LineFaults.{hour_in}
-use Rattle.lines.specs.FaultLaws.{hour_shape, hour_formed, hour_values_lem, hour_rises, hour_inside}
-use Rattle.lines.specs.RightLaws.{right_hour}
+use Rattle.lines.proofs.FaultLaws.{hour_shape, hour_formed, hour_values_lem, hour_rises, hour_inside}
+use Rattle.lines.proofs.RightLaws.{right_hour}
 use Rattle.lines.specs.declared.Period.{Period}
 use Rattle.reading.specs.Places.{hour_start, hour_line_in, Rising}
 use Rattle.reading.specs.RightFile.{RightHours}

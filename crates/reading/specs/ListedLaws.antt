@@ -13,11 +13,11 @@ use Rattle.layout.specs.Layout.{length_of}
 use Rattle.layout.specs.declared.RecordType.TheVariants.{Operation}
 use Rattle.lines.specs.Lines.{lines, last}
 use Rattle.lines.specs.LineFaults.{operates}
-use Rattle.lines.specs.FaultLaws.{shape_type, ValuesRight, values_right, dated_rises}
-use Rattle.lines.specs.OperationLaws.{operation_dated, operation_shape, operation_formed, operating_values}
+use Rattle.lines.proofs.FaultLaws.{shape_type, ValuesRight, values_right, dated_rises}
+use Rattle.lines.proofs.OperationLaws.{operation_dated, operation_shape, operation_formed, operating_values}
 use Rattle.lines.specs.RightLine.{RightListed}
-use Rattle.lines.specs.RightLaws.{RightTime, right_operation}
-use Rattle.lines.specs.RightLaws.RightTime.{runs, rests}
+use Rattle.lines.proofs.RightLaws.{RightTime, right_operation}
+use Rattle.lines.proofs.RightLaws.RightTime.{runs, rests}
 use Rattle.lines.specs.declared.Period.{Period}
 use Rattle.reading.specs.Reading.{next_date}
 use Rattle.reading.specs.Recorded.{idle}

@@ -15,16 +15,16 @@ use Rattle.exact.specs.Logic.{All}
 use Rattle.exact.specs.Sums.{total_of}
 use Rattle.layout.specs.Layout.{code_of, length_of, value_count, value_at, order, earlier, count_of, bytes_of, line_of, offset_of, report_length, shape}
 use Rattle.layout.specs.LayoutLaws.{count_most}
-use Rattle.layout.specs.PlaceLaws.{front_bytes, front_lines, line_inside}
-use Rattle.layout.specs.ValueLaws.{value_inside}
+use Rattle.layout.proofs.PlaceLaws.{front_bytes, front_lines, line_inside}
+use Rattle.layout.proofs.ValueLaws.{value_inside}
 use Rattle.layout.specs.declared.RecordType.{RecordType}
-use Rattle.layout.specs.RunLaws.{other_count}
-use Rattle.layout.specs.TypeLaws.{code_tells}
+use Rattle.layout.proofs.RunLaws.{other_count}
+use Rattle.layout.proofs.TypeLaws.{code_tells}
 use Rattle.layout.specs.declared.RecordType.TheVariants.{So2Concentration, Operation}
 use Rattle.layout.specs.declared.Shape.{Shape}
 use Rattle.lines.specs.Lines.{lines, last}
 use Rattle.lines.specs.LineFaults.{type_is, field_in, operates}
-use Rattle.lines.specs.FaultLaws.{columns_of_line}
+use Rattle.lines.proofs.FaultLaws.{columns_of_line}
 use Rattle.reading.specs.Recorded.{Line, lines_with, idle, record_of_type, records_of, hour_count}
 use Rattle.reading.specs.RecordedLaws.{typed_idle}
 use Rattle.reading.specs.Places.{lines_at, numbered, having, line_at, Standing, Stands}

@@ -3,12 +3,12 @@ use Rattle.std.specs.Prelude.{ℕ, ◌+◌, ◌-◌, ◌<◌, ◌≡◌, List, [
 use Rattle.std.proofs.Common.{sym, ap, ◌∙◌, arith, ne_eqb}
 use Rattle.std.proofs.lemmas.Bool.{not-true}
 use Rattle.exact.specs.Logic.{both}
-use Rattle.layout.specs.TypeLaws.{code_tells}
+use Rattle.layout.proofs.TypeLaws.{code_tells}
 use Rattle.layout.specs.declared.RecordType.{RecordType}
 use Rattle.layout.specs.declared.RecordType.TheVariants.{Operation}
 use Rattle.lines.specs.Lines.{lines, text_of}
 use Rattle.lines.specs.LineFaults.{type_is, operates}
-use Rattle.lines.specs.FaultLaws.{type_same}
+use Rattle.lines.proofs.FaultLaws.{type_same}
 use Rattle.reading.specs.RunLaws.{with_numbered, Passing, having_at}
 use Rattle.reading.specs.Recorded.{Line, idle, record_of_type, records_of, HasRecord, record_at}
 

@@ -8,7 +8,7 @@ use Rattle.std.proofs.lemmas.Bool.{false≢true, eqb-false}
 use Rattle.std.proofs.Math.Seq.{append_snoc}
 use Rattle.exact.specs.Logic.{All}
 use Rattle.exact.specs.Clauses.{FirstFails}
-use Rattle.exact.specs.ClauseLaws.{first_determined, told_first, told_wrong, first_among}
+use Rattle.exact.proofs.ClauseLaws.{first_determined, told_first, told_wrong, first_among}
 use Rattle.columns.specs.Columns.{columns}
 use Rattle.layout.specs.Layout.{shape_with}
 use Rattle.layout.specs.declared.RecordType.{RecordType}
@@ -17,13 +17,13 @@ use Rattle.layout.specs.declared.Shape.{Shape}
 use Rattle.lines.specs.Lines.{lines, last}
 use Rattle.lines.specs.LineFaults.{type_is, period_on, facility_fault, facility_line, hour_in, hour_fault, hour_line, Due, due_fault, operates}
 use Rattle.lines.specs.LineFaults.{operation_fault, said_of, operation_line}
-use Rattle.lines.specs.FaultLaws.{facility_said, said_fault, hour_said_lem}
-use Rattle.lines.specs.OperationLaws.{Said, said_operating, said_idle, operating_left}
+use Rattle.lines.proofs.FaultLaws.{facility_said, said_fault, hour_said_lem}
+use Rattle.lines.proofs.OperationLaws.{Said, said_operating, said_idle, operating_left}
 use Rattle.lines.specs.RightLine.{paper_row, RightFacility, RightDue, RightListed}
-use Rattle.lines.specs.RightLaws.{type_right, right_type, facility_right, hour_right, due_says, operation_right, RightTime}
-use Rattle.lines.specs.RightLaws.RightTime.{runs, rests}
+use Rattle.lines.proofs.RightLaws.{type_right, right_type, facility_right, hour_right, due_says, operation_right, RightTime}
+use Rattle.lines.proofs.RightLaws.RightTime.{runs, rests}
 use Rattle.lines.specs.Clauses.{facility_clauses, hour_clauses, due_clauses, listed_clauses, of_line_checks}
-use Rattle.lines.specs.ClauseLaws.{facility_told, hour_told, due_told, listed_told, OfLines, values_numbers}
+use Rattle.lines.proofs.ClauseLaws.{facility_told, hour_told, due_told, listed_told, OfLines, values_numbers}
 use Rattle.lines.specs.declared.Period.{Period}
 use Rattle.lines.specs.declared.FacilityLine.{FacilityLine}
 use Rattle.lines.specs.declared.FacilityLine.TheVariants.{Of, Faulty as FaultyFacility}

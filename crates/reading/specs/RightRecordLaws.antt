@@ -13,9 +13,9 @@ use Rattle.layout.specs.declared.RecordType.TheVariants.{Facility, So2Concentrat
 use Rattle.layout.specs.declared.RecordType.TheVariants.{Operation, QuarterTotals, So2Mass, NoxRate, Co2Mass}
 use Rattle.lines.specs.Lines.{lines}
 use Rattle.lines.specs.LineFaults.{type_is, has_gas, so2_blank, gas_fault, due_of}
-use Rattle.lines.specs.FaultLaws.{due_right}
+use Rattle.lines.proofs.FaultLaws.{due_right}
 use Rattle.lines.specs.RightLine.{RightDue}
-use Rattle.lines.specs.RightLaws.{right_type, says_due}
+use Rattle.lines.proofs.RightLaws.{right_type, says_due}
 use Rattle.lines.specs.declared.Period.{Period}
 use Rattle.reading.specs.Recorded.{Line, lines_with, record_at, hour_at, hour_count}
 use Rattle.reading.specs.RightFile.{RightHours, RightRun, RightOperations, RightFile}

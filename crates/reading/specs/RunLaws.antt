@@ -10,11 +10,11 @@ use Rattle.std.proofs.lemmas.Bool.{not-true}
 use Rattle.exact.specs.Sums.{total_of}
 use Rattle.layout.specs.Layout.{code_of, order, earlier, later}
 use Rattle.exact.specs.Logic.{both, All}
-use Rattle.layout.specs.PlaceLaws.{order_split}
-use Rattle.layout.specs.TypeLaws.{absent, only_once}
+use Rattle.layout.proofs.PlaceLaws.{order_split}
+use Rattle.layout.proofs.TypeLaws.{absent, only_once}
 use Rattle.layout.specs.declared.RecordType.{RecordType}
 use Rattle.lines.specs.LineFaults.{type_is}
-use Rattle.lines.specs.FaultLaws.{type_same}
+use Rattle.lines.proofs.FaultLaws.{type_same}
 use Rattle.reading.specs.Recorded.{Line, lines_with}
 use Rattle.reading.specs.Places.{numbered, having}
 

@@ -11,15 +11,15 @@ use Rattle.std.proofs.Math.Seq.{append_snoc}
 use Rattle.std.proofs.lemmas.Bool.{not-true}
 use Rattle.exact.specs.Logic.{both, All, all_parts}
 use Rattle.layout.specs.Layout.{code_of, shape_with}
-use Rattle.layout.specs.TypeLaws.{absent}
+use Rattle.layout.proofs.TypeLaws.{absent}
 use Rattle.layout.specs.declared.RecordType.{RecordType}
 use Rattle.layout.specs.declared.RecordType.TheVariants.{So2Concentration, Operation}
 use Rattle.lines.specs.LineFaults.{type_is, facility_line, hour_line, Due, due_of, due_fault, operation_line}
-use Rattle.lines.specs.FaultLaws.{type_same}
-use Rattle.lines.specs.OperationLaws.{operation_said}
+use Rattle.lines.proofs.FaultLaws.{type_same}
+use Rattle.lines.proofs.OperationLaws.{operation_said}
 use Rattle.lines.specs.RightLine.{Headed, RightFacility, RightListed}
-use Rattle.lines.specs.RightLaws.{right_type, right_facility, right_hour, says_due, RightTime, right_operation}
-use Rattle.lines.specs.RightLaws.RightTime.{runs, rests}
+use Rattle.lines.proofs.RightLaws.{right_type, right_facility, right_hour, says_due, RightTime, right_operation}
+use Rattle.lines.proofs.RightLaws.RightTime.{runs, rests}
 use Rattle.lines.specs.declared.Period.{Period}
 use Rattle.lines.specs.declared.operation.OperationLine.TheVariants.{Operating, Idle, Faulty as FaultyOperation}
 use Rattle.reading.specs.Reading.{stopped_at, first_types, last_types, hours_due, run_of, runs_of, After, walk_due, end_operations, next_date, walk_operations}

@@ -1,10 +1,3 @@
 pub mod Recording
-pub mod UsableLaws
 pub mod Promise
 pub mod Parts
-pub mod FloatLaws
-pub mod CountLaws
-pub mod ChannelLaws
-pub mod RecorderLaws
-pub mod PromiseLaws
-pub mod Examples

@@ -9,7 +9,7 @@ use lib.ListN.{length, take, drop, set, get_or, drop_of_length-le}
 use lib.Seq.{length-take-le, drop-cons, drop-drop, set_split, get_or-take}
 use borrow.Rule.Slice.PartMut.{put_mid}
 use Rattle.columns.specs.Columns.{put}
-use Rattle.columns.specs.ColumnsLaws.{put_length, put_beside}
+use Rattle.columns.proofs.ColumnsLaws.{put_length, put_beside}
 use Rattle.columns.specs.Written.{written}
 use Rattle.layout.specs.Layout.{value_count, values_of, value_at, most_values}
 use Rattle.layout.specs.Values.{no_value}

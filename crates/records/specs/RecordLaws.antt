@@ -4,9 +4,9 @@ use Rattle.std.proofs.Common.{◌∙◌, arith}
 use Rattle.std.proofs.lemmas.List.{length-replicate}
 use Rattle.columns.specs.Bytes.{all, is_printable}
 use Rattle.columns.specs.Columns.{put}
-use Rattle.columns.specs.ColumnsLaws.{put_length, put_all}
+use Rattle.columns.proofs.ColumnsLaws.{put_length, put_all}
 use Rattle.columns.specs.Written.{digits_of, written}
-use Rattle.columns.specs.WrittenLaws.{digits_length, digits_printable, written_length, written_printable}
+use Rattle.columns.proofs.WrittenLaws.{digits_length, digits_printable, written_length, written_printable}
 use Rattle.layout.specs.Layout.{
   code_of,
   length_of,
@@ -22,7 +22,7 @@ use Rattle.layout.specs.Layout.{
 }
 use Rattle.layout.specs.Values.{year_digits, quarter_digit, no_value}
 use Rattle.layout.specs.LayoutLaws.{length_least, date_fits}
-use Rattle.layout.specs.ValueLaws.{value_inside}
+use Rattle.layout.proofs.ValueLaws.{value_inside}
 use Rattle.totals.specs.declared.Quarter.{Quarter}
 use Rattle.layout.specs.declared.values.Value.{Value}
 use Rattle.formulas.specs.declared.hour.Hour.{Hour}

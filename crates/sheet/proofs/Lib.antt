@@ -1,1 +1,4 @@
 pub mod Words
+pub mod SheetClauseLaws
+pub mod SheetLaws
+pub mod TestLaws

@@ -7,7 +7,7 @@ use borrow.Author.Tests.{eqb-true, eq-eqb}
 use Rattle.columns.specs.Bytes.{all, is_printable}
 use Rattle.columns.specs.Number.{digits_only}
 use Rattle.columns.specs.Written.{digits_of}
-use Rattle.columns.specs.WrittenLaws.{read_digits_written, digits_length, digits_printable}
+use Rattle.columns.proofs.WrittenLaws.{read_digits_written, digits_length, digits_printable}
 use Rattle.columns.specs.declared.Field.{Field}
 use Rattle.columns.specs.declared.Field.TheVariants.{Blank, Malformed, Number}
 use Rattle.layout.specs.Layout.{date_width}

@@ -1,1 +1,5 @@
 pub mod Sums
+pub mod FitLaws
+pub mod MassLaws
+pub mod TieExamples
+pub mod TotalLaws

@@ -8,9 +8,9 @@ use lib.Dec.{lit<}
 use lib.ListN.{length, get_or}
 use Rattle.calendar.specs.Calendar.{most_hours}
 use Rattle.exact.specs.Fraction.{over, ◌÷◌, whole}
-use Rattle.exact.specs.FractionLaws.{quotient}
+use Rattle.exact.proofs.FractionLaws.{quotient}
 use Rattle.exact.specs.Rounding.{recorded, nearest, half_up}
-use Rattle.exact.specs.RoundingLaws.{nearest_reduced}
+use Rattle.exact.proofs.RoundingLaws.{nearest_reduced}
 use Rattle.exact.specs.Sums.{hundredths}
 use Rattle.formulas.specs.Hour.{tenth, thousandth}
 use Rattle.totals.specs.Totals.{Share, shares, share_of, no_totals, added, with_hour, most_share, most_sum, ShareRoom, Room}

@@ -10,7 +10,7 @@ use Rattle.sheet.specs.Sheet.{shape_of, sheet_hours}
 use Rattle.writer.specs.Recorded.{report_hours}
 use Rattle.writer.specs.Refusals.{refusal_of}
 use Rattle.writer.specs.Written.{report, answered, buffered, buffered_in, answered_in}
-use Rattle.writer.specs.ReportLaws.{report_shape, report_bytes}
+use Rattle.writer.proofs.ReportLaws.{report_shape, report_bytes}
 use Rattle.writer.specs.declared.Written.TheVariants.{Length, Refused}
 
 module _ (year quarter : ℕ) (name sheet buffer : List ℕ) where

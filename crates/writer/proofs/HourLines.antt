@@ -12,11 +12,11 @@ use lib.ListN.{length, drop, get_or, length-drop}
 use lib.Seq.{drop-append-le, drop-cons, drop-drop, ext_get_or}
 use Rattle.exact.specs.Logic.{mapped_at}
 use Rattle.columns.specs.Columns.{put}
-use Rattle.columns.specs.ColumnsLaws.{put_length, put_behind}
+use Rattle.columns.proofs.ColumnsLaws.{put_length, put_behind}
 use Rattle.layout.specs.Layout.{stack_width, shape, record_of, order, length_of, date_column, rank_of, hourly, count_of, bytes_of, front_of, offset_of, report_length}
 use Rattle.layout.specs.LayoutLaws.{in_order_lem}
-use Rattle.layout.specs.PlaceLaws.{line_inside}
-use Rattle.layout.specs.RunLaws.{once_type, in_run, once_or_dated_lem, dated_run, by_run, dated_count}
+use Rattle.layout.proofs.PlaceLaws.{line_inside}
+use Rattle.layout.proofs.RunLaws.{once_type, in_run, once_or_dated_lem, dated_run, by_run, dated_count}
 use Rattle.layout.specs.declared.Run.TheVariants.{Once}
 use Rattle.stamp.specs.Stamp.{stamp_of}
 use Rattle.totals.specs.Totals.{quarter_totals}
@@ -28,8 +28,8 @@ use Rattle.records.specs.Records.{ended, facility_record, totals_record}
 use Rattle.writer.specs.Written.{hour_record, written_records, report}
 use Rattle.writer.specs.HourLines.{hour_lines, hours_lines}
 use Rattle.records.specs.RecordLaws.{facility_length, totals_length}
-use Rattle.writer.specs.LineLaws.{hour_length}
-use Rattle.writer.specs.ReportLaws.{ended_length, hour_records, behind_record, record_place, report_bytes}
+use Rattle.writer.proofs.LineLaws.{hour_length}
+use Rattle.writer.proofs.ReportLaws.{ended_length, hour_records, behind_record, record_place, report_bytes}
 use Rattle.writer.proofs.Puts.{Own, Right, unknown, put_fills, put_keeps}
 
 drop_next : {A : Type 0} (xs : List A) (k : ℕ) (a : A) (rest : List A) → drop k xs ≡ a ∷ rest → drop (k + 1) xs ≡ rest

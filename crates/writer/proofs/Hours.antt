@@ -9,10 +9,10 @@ use Rattle.exact.specs.Logic.{ranked, ranked_next, ranked_end}
 use Rattle.layout.specs.Layout.{order, hourly}
 use Rattle.stamp.specs.Stamp.{stamp_of}
 use Rattle.totals.specs.Totals.{Room, no_totals, with_hour, running_totals, quarter_of, quarter_totals}
-use Rattle.totals.specs.TotalLaws.{running_totals_lem, running_next, running_end, grown_hours, quarter_formed}
+use Rattle.totals.proofs.TotalLaws.{running_totals_lem, running_next, running_end, grown_hours, quarter_formed}
 use Rattle.totals.specs.declared.Totals.{Totals}
 use Rattle.layout.specs.declared.Shape.{Shape}
-use Rattle.sheet.specs.SheetLaws.{sheet_hours_whole}
+use Rattle.sheet.proofs.SheetLaws.{sheet_hours_whole}
 use Rattle.sheet.specs.Sheet.{sheet_hour, shape_of, sheet_hours}
 use Rattle.writer.specs.Recorded.{recorded_hour, recorded_hours, report_hours}
 use Rattle.records.specs.Room.{HourFits}

@@ -4,3 +4,10 @@ pub mod Hours
 pub mod Puts
 pub mod HourLines
 pub mod Answer
+pub mod Examples
+pub mod LineLaws
+pub mod RefusalLaws
+pub mod ReportLaws
+pub mod SheetExamples
+pub mod TableLaws
+pub mod WriterClauseLaws

@@ -7,7 +7,7 @@ use native.Mathlib.Decide.{dec_lt}
 use lib.ListN.{length, drop, get_or, get_or-append}
 use lib.Seq.{get_or-drop}
 use Rattle.columns.specs.Columns.{put}
-use Rattle.columns.specs.ColumnsLaws.{put_length, put_before, put_behind, put_inside}
+use Rattle.columns.proofs.ColumnsLaws.{put_length, put_before, put_behind, put_inside}
 
 -- bytes that the whole has at this place
 pub record Own (whole : List ℕ) (at : ℕ) (bytes : List ℕ) : Type 0 where

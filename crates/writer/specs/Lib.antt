@@ -2,14 +2,7 @@ pub mod Recorded
 pub mod Refusals
 pub mod OnePass
 pub mod Writable
-pub mod RefusalLaws
 pub mod Written
 pub mod HourLines
-pub mod LineLaws
-pub mod ReportLaws
 pub mod WriterClauses
-pub mod WriterClauseLaws
 pub mod Table
-pub mod TableLaws
-pub mod Examples
-pub mod SheetExamples

@@ -5,7 +5,7 @@ use native.Mathlib.Omega.{arith}
 use borrow.Author.Rules.{rules}
 use borrow.Author.Tests.{not-true, not-false}
 use Rattle.annual.specs.Joined.{follows, sums_fit}
-use Rattle.annual.specs.JoinedLaws.{Follows, follows_true, joined_record}
+use Rattle.annual.proofs.JoinedLaws.{Follows, follows_true, joined_record}
 use Rattle.annual.proofs.Tests.{joined_41, joined_42, SumsFit, sums_true, all_fit}
 use Rattle.annual.proofs.join.Statement.{statement}
 use Rattle.annual.proofs.join.Tie as tie

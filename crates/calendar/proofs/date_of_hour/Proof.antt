@@ -10,8 +10,10 @@ use Rattle.calendar.proofs.date_of_hour.Tie as tie
 -- the places of the code, each from the next one below it
 abbrev first : tie.After-days_in_month-second → tie.After-first_month-first
 first c = c.before
+
 abbrev second : tie.After-days_in_month → tie.After-days_in_month-second
 second c = c.before.before
+
 months : (c : tie.After-first_month-first) → Starts c.before.args.year c.first_month-first.result
 months c = starts _ _
 

@@ -10,6 +10,7 @@ use Rattle.calendar.proofs.days_before.Tie as tie
 
 abbrev start : tie.After-days_in_month-days → tie.Start
 start c = c.before.before
+
 returns : tie.Need-returns-then-month-first
 returns c =
     let d = c.before.args in

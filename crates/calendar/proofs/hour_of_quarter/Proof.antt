@@ -13,8 +13,10 @@ use Rattle.calendar.proofs.hour_of_quarter.Tie as tie
 -- the places of the code, each from the next one below it
 abbrev started : tie.After-days_in_month → tie.After-first_month-first
 started c = c.before.before.before.before.before
+
 abbrev measured : tie.After-days_before → tie.After-days_in_month
 measured c = c.before.before.before.before.before
+
 -- the days before the month, and its own
 fits : (c : tie.After-days_before) → c.days_before.result + (measured c).days_in_month.result ≤ 93
 fits c = omega (arith, days_before_lem _ _ _ _ c.days_before.ensures, month_length _ _ _ (measured c).days_in_month.ensures)

@@ -9,6 +9,7 @@ use Rattle.calendar.proofs.hours_in_quarter.Tie as tie
 
 abbrev measured : tie.After-days_in_month-3 → tie.After-days_in_month
 measured c = c.before.before
+
 -- the days of the three months
 fits : (c : tie.After-days_in_month-3) →
     c.days_in_month-3.result + c.before.days_in_month-2.result + (measured c).days_in_month.result ≤ 93

@@ -6,9 +6,9 @@ use Rattle.reading.specs.Reading.{read_of}
 use Rattle.reading.specs.RightFileLaws.{read_right}
 use Rattle.reading.specs.declared.Reading.TheVariants.{Clean}
 use Rattle.checker.specs.Checked.{after_reading, checked}
-use Rattle.checker.specs.JudgingLaws.{right_judgeable}
+use Rattle.checker.proofs.JudgingLaws.{right_judgeable}
 use Rattle.checker.specs.Promise.{Promise}
-use Rattle.checker.specs.PromiseLaws.{promise}
+use Rattle.checker.proofs.PromiseLaws.{promise}
 use Rattle.checker.specs.declared.Answer.{Answer}
 use borrow.Author.Rules.{rules}
 use Rattle.checker.proofs.check.Statement.{statement}

@@ -4,7 +4,7 @@ use mathlib.Core.Path.{◌≡◌, sym, ap, ◌∙◌}
 use mathlib.Core.List.{List}
 use Rattle.judging.specs.declared.Verdict.TheVariants.{Refused as Failed}
 use Rattle.checker.specs.Checked.{refused_at, answer_of, verdict_on, judged}
-use Rattle.checker.specs.JudgingLaws.{failure_record}
+use Rattle.checker.proofs.JudgingLaws.{failure_record}
 use borrow.Author.Rules.{rules}
 use Rattle.checker.proofs.judge.Statement.{statement}
 use Rattle.checker.proofs.judge.Tie as tie

@@ -17,7 +17,7 @@ use Rattle.reading.specs.RankLaws.{ahead_first, ahead_some, ahead_stands}
 use Rattle.recorded.specs.ListedHours.{listed_hour}
 use Rattle.recorded.specs.declared.ListedHour.{ListedHour}
 use Rattle.judging.specs.Judged.{figure_count, figure_at, failed_at}
-use Rattle.judging.specs.JudgedLaws.{figure_some}
+use Rattle.judging.proofs.JudgedLaws.{figure_some}
 use Rattle.judging.specs.declared.FigureRow.{FigureRow}
 use Rattle.judging.specs.declared.Failure.{Failure}
 use Rattle.judging.specs.declared.Verdict.TheVariants.{Refused}

@@ -14,6 +14,7 @@ decreases-loop bytes i₀ i = length bytes - i
 -- the places of the code, each from the next one below it
 abbrev passed : tie.After-shared_slice_known-1 invariant-loop decreases-loop → tie.At-loop-i invariant-loop decreases-loop
 passed c = c.before.before
+
 abbrev bytes : tie.At-loop-i invariant-loop decreases-loop → List ℕ
 bytes c = c.before.args.bytes.now
 

@@ -3,7 +3,7 @@ use Rattle.std.proofs.Common.{◌≡◌, ℕ, ◌-◌, ◌≤◌, true, List, le
 use native.Mathlib.Nat.{add-sub_cancel_left}
 use borrow.Author.Tests.{not-true, not-false}
 use Rattle.columns.specs.Bytes.{is_printable, all}
-use Rattle.columns.specs.ColumnsLaws.{part_end}
+use Rattle.columns.proofs.ColumnsLaws.{part_end}
 use Rattle.columns.proofs.Blocks.{block_more, block_fails, last_decides}
 use Rattle.columns.proofs.all_printable.Statement.{statement}
 use Rattle.columns.proofs.all_printable.Tie as tie
@@ -20,8 +20,10 @@ bytes c = c.before.before.before.args.bytes.now
 
 abbrev turn : tie.After-block_printable-in-loop-i invariant-loop decreases-loop → tie.At-loop-i invariant-loop decreases-loop
 turn c = c.before.before.before
+
 abbrev passed : tie.After-block_printable-2 invariant-loop decreases-loop → tie.At-loop-i invariant-loop decreases-loop
 passed c = c.before.before.before
+
 -- what a block is, and the last one
 block : (c : tie.After-block_printable-in-loop-i invariant-loop decreases-loop) →
     c.block_printable-in-loop-i.result ≡ all is_printable (take 16 (drop (turn c).loop-i.i (bytes (turn c))))

@@ -26,8 +26,10 @@ decreases-loop before bytes value₀ i₀ value i = length bytes - i
 -- the places of the code, each from the next one below it
 abbrev passed : tie.After-shared_slice_known-in-loop-i-1 invariant-loop decreases-loop → tie.At-loop-i invariant-loop decreases-loop
 passed c = c.before.before
+
 abbrev read : tie.Else-digit-gt9 invariant-loop decreases-loop → tie.After-wrapping_sub_u8-digit invariant-loop decreases-loop
 read c = c.before
+
 abbrev digit : tie.Else-digit-gt9 invariant-loop decreases-loop → tie.At-loop-i invariant-loop decreases-loop
 digit c = passed (read c).before
 

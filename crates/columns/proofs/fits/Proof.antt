@@ -16,10 +16,13 @@ decreases-loop line picture last i₀ i = length picture - i
 -- the places of the code, each from the next one below it
 abbrev start : tie.Else-not-block_fits invariant-loop decreases-loop → tie.Start invariant-loop decreases-loop
 start c = c.before.before.before.before.before
+
 abbrev ended : tie.At-loop-i invariant-loop decreases-loop → tie.Else-not-block_fits invariant-loop decreases-loop
 ended c = c.before
+
 abbrev turn : tie.Else-not-block_fits-2 invariant-loop decreases-loop → tie.At-loop-i invariant-loop decreases-loop
 turn c = c.before.before.before
+
 -- the last block
 last_fits : (c : tie.Else-not-block_fits invariant-loop decreases-loop) →
     let x = (start c).args in FitsFrom (length x.picture.now - 16) (length x.picture.now) x.picture.now x.line.now

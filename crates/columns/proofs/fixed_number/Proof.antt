@@ -10,14 +10,19 @@ use Rattle.columns.proofs.fixed_number.Tie as tie
 -- the places of the code, each from the next one below it
 abbrev start : tie.After-whole_number-whole → tie.Start
 start c = c.before.before
+
 abbrev told : tie.In-Number → tie.After-whole_number-whole
 told c = c.before
+
 abbrev numbered : tie.After-shared_slice_known-in-Number-1 → tie.In-Number
 numbered c = c.before
+
 abbrev pointed : tie.After-digits_behind-arg-1 → tie.After-shared_slice_known-in-Number-1
 pointed c = c.before.before
+
 abbrev blank : tie.In-Blank → tie.After-whole_number-whole
 blank c = c.before
+
 abbrev bytes : tie.After-whole_number-whole → List ℕ
 bytes c = (start c).args.bytes.now
 

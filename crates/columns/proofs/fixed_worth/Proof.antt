@@ -2,7 +2,7 @@
 use Rattle.std.proofs.Common.{◌≡◌, ℕ, ◌+◌, ◌-◌, length, take, drop, sym, ap, ◌∙◌, arith, length-drop, length-take, length-take-le, rules}
 use Rattle.columns.specs.Number.{point_in}
 use Rattle.columns.specs.Worth.{low_from, fixed_worth}
-use Rattle.columns.specs.ColumnsLaws.{part_end}
+use Rattle.columns.proofs.ColumnsLaws.{part_end}
 use Rattle.columns.proofs.Lows.{low_none, low_behind}
 use Rattle.columns.proofs.fixed_worth.Statement.{statement}
 use Rattle.columns.proofs.fixed_worth.Tie as tie

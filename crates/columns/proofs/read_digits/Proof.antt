@@ -2,8 +2,8 @@
 use Rattle.std.proofs.Common.{◌≡◌, length, ap, ◌∙◌, arith, rules}
 use Rattle.columns.specs.Columns.{columns}
 use Rattle.columns.specs.Number.{digits_from, digits_only}
-use Rattle.columns.specs.ColumnsLaws.{columns_length}
-use Rattle.columns.specs.NumberLaws.{columns_digits_bound}
+use Rattle.columns.proofs.ColumnsLaws.{columns_length}
+use Rattle.columns.proofs.NumberLaws.{columns_digits_bound}
 use Rattle.columns.proofs.Reading.{part_columns, room_none}
 use Rattle.columns.proofs.read_digits.Statement.{statement}
 use Rattle.columns.proofs.read_digits.Tie as tie

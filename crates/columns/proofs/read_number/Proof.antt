@@ -2,14 +2,15 @@
 use Rattle.std.proofs.Common.{◌≡◌, length, sym, ap, ◌∙◌, arith, rules}
 use Rattle.columns.specs.Columns.{columns}
 use Rattle.columns.specs.Number.{whole_of, fixed_of, field_of}
-use Rattle.columns.specs.ColumnsLaws.{columns_length}
-use Rattle.columns.specs.NumberLaws.{columns_number_bound, field_whole, field_fixed}
+use Rattle.columns.proofs.ColumnsLaws.{columns_length}
+use Rattle.columns.proofs.NumberLaws.{columns_number_bound, field_whole, field_fixed}
 use Rattle.columns.proofs.Reading.{part_columns}
 use Rattle.columns.proofs.read_number.Statement.{statement}
 use Rattle.columns.proofs.read_number.Tie as tie
 
 abbrev start : tie.After-field-1 → tie.Start
 start c = c.before.before
+
 sub-from : tie.Need-overflow_sub-from
 sub-from c = search rules
 

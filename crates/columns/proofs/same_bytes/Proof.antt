@@ -14,8 +14,10 @@ decreases-loop a b fine₀ i₀ fine i = length a - i
 -- the places of the code, each from the next one below it
 abbrev start : tie.At-loop-i invariant-loop decreases-loop → tie.Start invariant-loop decreases-loop
 start c = c.before.before
+
 abbrev passed : tie.After-shared_slice_known-in-loop-i-1 invariant-loop decreases-loop → tie.At-loop-i invariant-loop decreases-loop
 passed c = c.before.before.before
+
 returns : tie.Need-returns-then-a-b invariant-loop decreases-loop
 returns c = sym (same_length _ _ (λ e. omega arith))
 

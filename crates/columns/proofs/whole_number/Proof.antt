@@ -1,7 +1,7 @@
 -- A whole number is read: blanks are passed while what is left is what the whole is; the digits behind them are read to the end.
 use Rattle.std.proofs.Common.{◌≡◌, ℕ, ◌-◌, ◌≤◌, List, length, drop, sym, refl, ap, ◌∙◌, arith, length-drop}
 use Rattle.columns.specs.Number.{digits_from, whole_of}
-use Rattle.columns.specs.ColumnsLaws.{part_end}
+use Rattle.columns.proofs.ColumnsLaws.{part_end}
 use Rattle.columns.proofs.Reading.{whole_one, whole_digits, whole_end, room_none}
 use Rattle.columns.proofs.whole_number.Statement.{statement}
 use Rattle.columns.proofs.whole_number.Tie as tie
@@ -15,8 +15,10 @@ decreases-loop bytes i₀ i = length bytes - i
 -- the places of the code, each from the next one below it
 abbrev start : tie.At-loop-i invariant-loop decreases-loop → tie.Start invariant-loop decreases-loop
 start c = c.before.before
+
 abbrev passed : tie.After-shared_slice_known-in-loop-i-1 invariant-loop decreases-loop → tie.At-loop-i invariant-loop decreases-loop
 passed c = c.before.before
+
 abbrev found : tie.After-digits_behind-arg-1 invariant-loop decreases-loop → tie.At-loop-i invariant-loop decreases-loop
 found c = passed c.before.before
 

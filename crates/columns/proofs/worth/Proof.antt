@@ -1,9 +1,9 @@
 -- A field of a line, with decimals or without.
 use Rattle.std.proofs.Common.{◌≡◌, length, sym, ap, ◌∙◌, arith, rules}
 use Rattle.columns.specs.Columns.{columns}
-use Rattle.columns.specs.ColumnsLaws.{columns_length}
+use Rattle.columns.proofs.ColumnsLaws.{columns_length}
 use Rattle.columns.specs.Worth.{low_from, fixed_worth}
-use Rattle.columns.specs.WorthLaws.{worth_whole, worth_fixed}
+use Rattle.columns.proofs.WorthLaws.{worth_whole, worth_fixed}
 use Rattle.columns.proofs.Reading.{part_columns}
 use Rattle.columns.proofs.Lows.{low_none}
 use Rattle.columns.proofs.worth.Statement.{statement}
@@ -11,6 +11,7 @@ use Rattle.columns.proofs.worth.Tie as tie
 
 abbrev start : tie.After-field-1 → tie.Start
 start c = c.before.before
+
 sub-from : tie.Need-overflow_sub-from
 sub-from c = search rules
 

@@ -7,7 +7,7 @@ use borrow.Author.Rules.{rules}
 use lib.ListN.{length, take, drop, length-set, drop_of_length-le}
 use lib.Seq.{take_all}
 use Rattle.conversion.specs.Conversion.{recoded_from}
-use Rattle.conversion.specs.ConversionLaws.{recode_more}
+use Rattle.conversion.proofs.ConversionLaws.{recode_more}
 use Rattle.conversion.proofs.recode.Statement.{statement}
 use Rattle.conversion.proofs.recode.Tie as tie
 

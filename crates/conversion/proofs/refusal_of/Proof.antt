@@ -11,7 +11,7 @@ use lib.ListN.{length, drop, get_or}
 use Rattle.calendar.specs.Calendar.{most_hours}
 use Rattle.sheet.specs.Sheet.{hour_words, sheet_hour_count}
 use Rattle.conversion.specs.Conversion.{kind_right, flow_right, each_word}
-use Rattle.conversion.specs.ConversionLaws.{each_end}
+use Rattle.conversion.proofs.ConversionLaws.{each_end}
 use Rattle.conversion.proofs.Words.{told, tried_wrong, tried_right, tried_with}
 use Rattle.conversion.proofs.refusal_of.Statement.{statement}
 use Rattle.conversion.proofs.refusal_of.Tie as tie

@@ -7,7 +7,7 @@ use lib.ListN.{length, length-set}
 use borrow.Author.Rules.{rules}
 use borrow.Author.Tests.{not-true, not-false}
 use Rattle.recorder.specs.Recording.{recorded_of}
-use Rattle.recorder.specs.PromiseLaws.{recorder_numbers_lem}
+use Rattle.recorder.proofs.PromiseLaws.{recorder_numbers_lem}
 use Rattle.recorder.specs.declared.RecorderHour.{RecorderHour}
 use Rattle.edr_c.specs.RecorderCall.{words_length, hour_in}
 use Rattle.edr_c.proofs.RecorderCall.{same_hour, RightLengths, right_lengths, known_states, wrong_lengths_lem, wrong_state, words, refused}

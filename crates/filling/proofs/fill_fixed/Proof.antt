@@ -7,7 +7,7 @@ use borrow.Author.Rules.{rules}
 use lib.ListN.{length, take, drop, length-take, length-set, set}
 use borrow.Rule.Slice.PartMut.{put_mid}
 use Rattle.columns.specs.Written.{digits_of, whole_written, fixed_written}
-use Rattle.columns.specs.WrittenLaws.{fixed_length}
+use Rattle.columns.proofs.WrittenLaws.{fixed_length}
 use Rattle.columns.specs.Number.{point_in}
 use Rattle.filling.proofs.Fields.{decimals_length, fixed_filled}
 use Rattle.filling.proofs.fill_fixed.Statement.{statement}
@@ -21,8 +21,10 @@ joined l d v h w e = rw (w, e) (fixed_filled l d v h)
 -- the places of the code, each from the next one below it
 abbrev start : tie.After-fill_digits-whole → tie.Start
 start c = c.before.before.before
+
 abbrev digits : tie.After-fill_whole → tie.After-fill_digits-whole
 digits c = c.before.before.before.before
+
 sub-point : tie.Need-overflow_sub-point
 sub-point c = search rules
 

@@ -5,13 +5,14 @@ use native.Mathlib.Omega.{arith}
 use borrow.Author.Rules.{rules}
 use lib.ListN.{length, length-take, length-set}
 use Rattle.columns.specs.Written.{leading}
-use Rattle.columns.specs.WrittenLaws.{whole_length}
+use Rattle.columns.proofs.WrittenLaws.{whole_length}
 use Rattle.filling.proofs.Fields.{whole_filled}
 use Rattle.filling.proofs.fill_whole.Statement.{statement}
 use Rattle.filling.proofs.fill_whole.Tie as tie
 
 abbrev start : tie.After-fill_leading → tie.Start
 start c = c.before.before.before
+
 sub-last : tie.Need-overflow_sub-last
 sub-last c = search rules
 

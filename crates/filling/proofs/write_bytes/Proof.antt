@@ -18,6 +18,7 @@ decreases-loop line₀ start bytes from i₀ line i = length bytes - i
 
 abbrev start : tie.At-loop-i invariant-loop decreases-loop → tie.Start invariant-loop decreases-loop
 start c = c.before
+
 sub-from : tie.Need-overflow_sub-from invariant-loop decreases-loop
 sub-from c = omega arith
 

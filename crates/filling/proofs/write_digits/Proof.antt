@@ -4,7 +4,7 @@ use mathlib.Core.Path.{◌≡◌, ap, ◌∙◌}
 use native.Mathlib.Omega.{arith}
 use borrow.Author.Rules.{rules}
 use Rattle.columns.specs.Written.{digits_of}
-use Rattle.columns.specs.WrittenLaws.{digits_length}
+use Rattle.columns.proofs.WrittenLaws.{digits_length}
 use Rattle.filling.proofs.Fields.{put_part, part_length}
 use Rattle.filling.proofs.write_digits.Statement.{statement}
 use Rattle.filling.proofs.write_digits.Tie as tie

@@ -4,8 +4,8 @@ use mathlib.Core.Path.{◌≡◌, ap, ◌∙◌}
 use native.Mathlib.Omega.{arith}
 use borrow.Author.Rules.{rules}
 use Rattle.columns.specs.Written.{whole_written, fixed_written}
-use Rattle.columns.specs.NumberLaws.{fewest_digit, fewest_decimals}
-use Rattle.columns.specs.WrittenLaws.{whole_length, fixed_length, written_whole, written_fixed}
+use Rattle.columns.proofs.NumberLaws.{fewest_digit, fewest_decimals}
+use Rattle.columns.proofs.WrittenLaws.{whole_length, fixed_length, written_whole, written_fixed}
 use Rattle.filling.proofs.Fields.{put_part, part_length}
 use Rattle.filling.proofs.write_number.Statement.{statement}
 use Rattle.filling.proofs.write_number.Tie as tie
@@ -13,10 +13,13 @@ use Rattle.filling.proofs.write_number.Tie as tie
 -- the places of the code, each from the next one below it
 abbrev start : tie.After-slice_known-1 → tie.Start
 start c = c.before
+
 abbrev whole : tie.After-fill_whole → tie.Then-decimals-eq0
 whole c = c.before.before
+
 abbrev fixed : tie.After-fill_fixed → tie.Else-decimals-eq0
 fixed c = c.before.before
+
 sub-from : tie.Need-overflow_sub-from
 sub-from c = search rules
 

@@ -6,7 +6,7 @@ use Rattle.exact.specs.Rounding.{span}
 use Rattle.formulas.specs.Hour.{unit_of, figure_of}
 use Rattle.formulas.specs.Formulas.{equation_of, equation_meets, readings_meet}
 use Rattle.formulas.specs.Reduced.{Reduces, formula_meets}
-use Rattle.formulas.specs.ReducedLaws.{reduced_meets}
+use Rattle.formulas.proofs.ReducedLaws.{reduced_meets}
 use Rattle.formulas.specs.declared.Form.{Form}
 use Rattle.formulas.specs.declared.Formula.{Formula}
 use Rattle.formulas.specs.declared.hour.Hour.{Hour}
@@ -18,6 +18,7 @@ use Rattle.formulas.proofs.equation_passes.Tie as tie
 -- the places of the code, each from the next one below it
 abbrev start : tie.After-figure_of-figure → tie.Start
 start c = c.before.before.before.before
+
 -- a figure as the definitions have it lies in its columns
 figure_fits : (c : tie.After-figure_of-figure) → c.figure_of-figure.result ≤ 999_999
 figure_fits c =

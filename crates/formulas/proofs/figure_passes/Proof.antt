@@ -3,7 +3,7 @@ use mathlib.Core.Path.{◌≡◌, ap, sym, ◌∙◌}
 use mathlib.Core.Bool.{Bool, true, false, cond}
 use Rattle.formulas.specs.Hour.{HourWithin}
 use Rattle.formulas.specs.Formulas.{readings_meet, gas_meets, by_heat, passes_test, Judges}
-use Rattle.formulas.specs.FormulaLaws.{test_exact}
+use Rattle.formulas.proofs.FormulaLaws.{test_exact}
 use Rattle.formulas.specs.declared.hour.Hour.{Hour}
 use Rattle.formulas.specs.declared.hour.Quantity.{Quantity}
 use borrow.Author.Rules.{rules}

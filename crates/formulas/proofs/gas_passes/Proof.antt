@@ -1,8 +1,8 @@
 -- The ranges that are compared are those of the heat's and the figure's ends, reduced.
 use mathlib.Core.Path.{ap, ◌∙◌}
 use Prim.Native.Nat.{◌*◌}
-use Rattle.exact.specs.MeetsLaws.{meets_at}
-use Rattle.formulas.specs.ReducedLaws.{reduced_gas}
+use Rattle.exact.proofs.MeetsLaws.{meets_at}
+use Rattle.formulas.proofs.ReducedLaws.{reduced_gas}
 use borrow.Author.Rules.{rules}
 use Rattle.formulas.proofs.gas_passes.Statement.{statement}
 use Rattle.formulas.proofs.gas_passes.Tie as tie
@@ -10,8 +10,10 @@ use Rattle.formulas.proofs.gas_passes.Tie as tie
 -- the places of the code, each from the next one below it
 abbrev ended : tie.After-ranges_meet → tie.After-ends_of-v
 ended c = c.before.before.before.before.before
+
 abbrev start : tie.After-ends_of-v → tie.Start
 start c = c.before.before
+
 ends-of-requires : tie.Need-ends_of-x-requires
 ends-of-requires c κs = search rules
 

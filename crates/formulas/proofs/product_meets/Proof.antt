@@ -3,7 +3,7 @@ use mathlib.Core.Path.{ap, ap₂, ◌∙◌}
 use Prim.Native.Nat.{ℕ, ◌*◌}
 use native.Mathlib.Nat.{mul-le-mul}
 use native.Mathlib.Omega.{arith}
-use Rattle.exact.specs.MeetsLaws.{meets_at}
+use Rattle.exact.proofs.MeetsLaws.{meets_at}
 use borrow.Author.Rules.{rules}
 use Rattle.formulas.proofs.product_meets.Statement.{statement}
 use Rattle.formulas.proofs.product_meets.Tie as tie
@@ -11,14 +11,19 @@ use Rattle.formulas.proofs.product_meets.Tie as tie
 -- the places of the code, each from the next one below it
 abbrev ended : tie.After-times → tie.After-ends_of-v
 ended c = c.before
+
 abbrev lowest : tie.After-times-2 → tie.After-times
 lowest c = c.before.before
+
 abbrev highest : tie.After-times-3 → tie.After-times-2
 highest c = c.before.before.before
+
 abbrev from : tie.After-times-4 → tie.After-times-3
 from c = c.before.before
+
 abbrev start : tie.After-ends_of-v → tie.Start
 start c = c.before.before.before
+
 ends-of-requires : tie.Need-ends_of-x-requires
 ends-of-requires c κs = search rules
 

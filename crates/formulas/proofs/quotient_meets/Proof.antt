@@ -6,7 +6,7 @@ use native.Mathlib.Omega.{arith}
 use Rattle.exact.specs.Rounding.{high_end}
 use Rattle.formulas.specs.Reduced.{QuotientRoom}
 use Rattle.formulas.specs.declared.Formula.{Formula}
-use Rattle.exact.specs.MeetsLaws.{meets_at}
+use Rattle.exact.proofs.MeetsLaws.{meets_at}
 use borrow.Author.Rules.{rules}
 use Rattle.formulas.proofs.quotient_meets.Statement.{statement}
 use Rattle.formulas.proofs.quotient_meets.Tie as tie
@@ -14,14 +14,19 @@ use Rattle.formulas.proofs.quotient_meets.Tie as tie
 -- the places of the code, each from the next one below it
 abbrev ended : tie.After-times → tie.After-ends_of-v
 ended c = c.before.before
+
 abbrev lowest : tie.After-times-2 → tie.After-times
 lowest c = c.before.before
+
 abbrev highest : tie.After-times-3 → tie.After-times-2
 highest c = c.before.before.before
+
 abbrev from : tie.After-times-4 → tie.After-times-3
 from c = c.before.before.before
+
 abbrev start : tie.After-ends_of-v → tie.Start
 start c = c.before.before.before
+
 -- den times an end of the divisor
 end_fits : (f : Formula) {e : ℕ} → QuotientRoom f → e ≤ high_end f.right → f.den * e ≤ 2_001_000_000
 end_fits f w h = omega (arith, mul-le-mul w.den.1 (le_trans h (highest_end f.right w.right.1)))

@@ -6,9 +6,9 @@ use native.Mathlib.Omega.{arith}
 use Rattle.exact.specs.Rounding.{nearest}
 use Rattle.formulas.specs.Hour.{unit_of, ReadingsWithin}
 use Rattle.formulas.specs.Formulas.{equation_of, rounded_value}
-use Rattle.formulas.specs.FormulaLaws.{equation_sound}
+use Rattle.formulas.proofs.FormulaLaws.{equation_sound}
 use Rattle.formulas.specs.Reduced.{Reduces, formula_rounded, ProductRoom, QuotientRoom}
-use Rattle.formulas.specs.ReducedLaws.{reduced_value}
+use Rattle.formulas.proofs.ReducedLaws.{reduced_value}
 use Rattle.formulas.specs.declared.Form.{Form}
 use Rattle.formulas.specs.declared.Formula.{Formula}
 use Rattle.formulas.specs.declared.hour.Readings.{Readings}
@@ -21,8 +21,10 @@ use Rattle.formulas.proofs.rounded_value.Tie as tie
 -- the places of the code, each from the next one below it
 abbrev product : tie.After-times → tie.In-Product
 product c = c.before
+
 abbrev quotient : tie.After-times-in-Quotient → tie.In-Quotient
 quotient c = c.before
+
 product_room : (c : tie.In-Product) → ProductRoom c.before.formula_of-f.result
 product_room c = room_of _ c.before.formula_of-f.ensures.1 c.in-Product.is
 

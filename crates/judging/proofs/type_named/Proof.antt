@@ -9,7 +9,7 @@ use lib.Dec.{eqb}
 use lib.ListN.{drop}
 use Rattle.layout.specs.declared.RecordType.{RecordType}
 use Rattle.judging.specs.Judged.{figure_count, figure_at, Tried, figures_tried, type_among}
-use Rattle.judging.specs.JudgedLaws.{drop_figure}
+use Rattle.judging.proofs.JudgedLaws.{drop_figure}
 use Rattle.judging.specs.declared.FigureRow.{FigureRow}
 use Rattle.judging.proofs.type_named.Statement.{statement}
 use Rattle.judging.proofs.type_named.Tie as tie

@@ -12,6 +12,7 @@ use Rattle.layout.proofs.offset_of.Tie as tie
 
 abbrev start : tie.After-row_of → tie.Start
 start c = c.before.before
+
 long : (c : tie.After-row_of) → c.row_of.result.length ≡ length_of (start c).args.t
 long c = ap (λ (r : Row). r.length) c.row_of.ensures
 

@@ -2,7 +2,7 @@
 use mathlib.Core.Path.{◌∙◌}
 use native.Mathlib.Omega.{arith}
 use Rattle.layout.specs.LayoutLaws.{report_length_lem}
-use Rattle.layout.specs.PlaceLaws.{report_ends}
+use Rattle.layout.proofs.PlaceLaws.{report_ends}
 use Rattle.layout.proofs.report_length.Statement.{statement}
 use Rattle.layout.proofs.report_length.Tie as tie
 

@@ -4,7 +4,7 @@ use native.Mathlib.Omega.{arith}
 use borrow.Author.Rules.{rules}
 use Rattle.lines.specs.Lines.{first_line}
 use Rattle.lines.specs.LineFaults.{common_fault, dated_fault}
-use Rattle.lines.specs.FaultLaws.{common_shape}
+use Rattle.lines.proofs.FaultLaws.{common_shape}
 use Rattle.lines.proofs.Chains.{first_of}
 use Rattle.lines.proofs.Answers.{dated_faulty, stamped_dated}
 use Rattle.lines.proofs.dated_line.Statement.{statement}

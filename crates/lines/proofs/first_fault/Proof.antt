@@ -10,7 +10,7 @@ use Rattle.layout.specs.declared.RecordType.{RecordType}
 use Rattle.layout.specs.declared.RecordType.TheVariants.{So2Concentration}
 use Rattle.lines.specs.Lines.{first_line}
 use Rattle.lines.specs.LineFaults.{shape_fault, common_fault, date_on, date_fault, gas_fault, due_fault}
-use Rattle.lines.specs.FaultLaws.{common_shape}
+use Rattle.lines.proofs.FaultLaws.{common_shape}
 use Rattle.lines.proofs.Chains.{first_of, later_of}
 use Rattle.lines.proofs.Rows as rows
 use Rattle.lines.proofs.first_fault.Statement.{statement}

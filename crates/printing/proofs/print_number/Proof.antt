@@ -5,9 +5,9 @@ use mathlib.Core.List.{[], ◌∷◌}
 use native.Mathlib.Omega.{arith}
 use borrow.Author.Rules.{rules}
 use Rattle.columns.specs.Columns.{put}
-use Rattle.columns.specs.ColumnsLaws.{put_beside}
+use Rattle.columns.proofs.ColumnsLaws.{put_beside}
 use Rattle.columns.specs.Written.{digits_of}
-use Rattle.columns.specs.WrittenLaws.{digits_length}
+use Rattle.columns.proofs.WrittenLaws.{digits_length}
 use Rattle.printing.specs.Printed.{digit_count, decimal_of}
 use Rattle.printing.proofs.print_number.Statement.{statement}
 use Rattle.printing.proofs.print_number.Tie as tie

@@ -4,7 +4,7 @@ use mathlib.Core.Path.{◌≡◌, sym, ap, subst, ◌∙◌}
 use mathlib.Core.List.{List}
 use native.Mathlib.Omega.{arith}
 use Rattle.layout.specs.Layout.{record_of, shape, lines_of}
-use Rattle.layout.specs.RunLaws.{listed_type}
+use Rattle.layout.proofs.RunLaws.{listed_type}
 use Rattle.layout.specs.declared.RecordType.{RecordType}
 use Rattle.layout.specs.declared.Row.{Row}
 use Rattle.layout.specs.declared.Run.{Run}

@@ -7,12 +7,12 @@ use Rattle.calendar.specs.Calendar.{most_hours}
 use Rattle.columns.specs.Columns.{columns}
 use Rattle.columns.specs.Number.{field_of, number_of}
 use Rattle.columns.specs.Worth.{worth_of}
-use Rattle.columns.specs.WorthLaws.{worth_number}
+use Rattle.columns.proofs.WorthLaws.{worth_number}
 use Rattle.columns.specs.declared.Field.TheVariants.{Malformed}
 use Rattle.layout.specs.Layout.{length_of, value_at, offset_of, ValueInside}
 use Rattle.lines.specs.LineFaults.{field_in}
 use Rattle.reading.specs.Places.{line_at}
-use Rattle.layout.specs.ValueLaws.{value_inside}
+use Rattle.layout.proofs.ValueLaws.{value_inside}
 use Rattle.reading.specs.RecordLaws.{room_for, value_at_lem}
 use borrow.Author.Rules.{rules}
 use Rattle.recorded.proofs.value_in.Statement.{statement}

@@ -7,7 +7,7 @@ use borrow.Author.Rules.{rules}
 use lib.Pow.{pow_pos}
 use Rattle.exact.specs.Rounding.{nearest}
 use Rattle.recorder.specs.Parts.{float_scale, UnitRoom}
-use Rattle.recorder.specs.CountLaws.{count_shifted, count_gone, units_most, divisor_room, divisor_whole}
+use Rattle.recorder.proofs.CountLaws.{count_shifted, count_gone, units_most, divisor_room, divisor_whole}
 use Rattle.recorder.specs.declared.Parts.{Parts}
 use Rattle.recorder.specs.declared.RecordingUnit.{RecordingUnit}
 use Rattle.recorder.proofs.count_at.Statement.{statement}

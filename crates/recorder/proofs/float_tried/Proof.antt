@@ -11,9 +11,9 @@ use Rattle.layout.specs.Values.{in_range}
 use Rattle.layout.specs.LayoutLaws.{in_range_true}
 use Rattle.recorder.specs.Recording.{usable, units_in, column_of, recording_unit, column_number}
 use Rattle.recorder.specs.Parts.{float_scale, parts_count}
-use Rattle.recorder.specs.CountLaws.{count_exact}
-use Rattle.recorder.specs.ChannelLaws.{row_room, number_room, most_held, beyond}
-use Rattle.recorder.specs.RecorderLaws.{fault_45, fault_46, fault_none}
+use Rattle.recorder.proofs.CountLaws.{count_exact}
+use Rattle.recorder.proofs.ChannelLaws.{row_room, number_room, most_held, beyond}
+use Rattle.recorder.proofs.RecorderLaws.{fault_45, fault_46, fault_none}
 use Rattle.recorder.specs.declared.Channel.{Channel}
 use Rattle.recorder.specs.declared.ChannelRow.{ChannelRow}
 use Rattle.recorder.proofs.float_tried.Statement.{statement}

@@ -6,8 +6,8 @@ use borrow.Author.Rules.{rules}
 use Rattle.exact.specs.Sums.{total_of}
 use Rattle.recorder.specs.Recording.{fault_of, words_for, recorded_of, recorder_numbers}
 use Rattle.recorder.specs.Promise.{RecorderPromise}
-use Rattle.recorder.specs.RecorderLaws.{so2_refuses, nox_refuses, co2_refuses, flow_refuses, all_taken, words_made}
-use Rattle.recorder.specs.PromiseLaws.{hour_promise}
+use Rattle.recorder.proofs.RecorderLaws.{so2_refuses, nox_refuses, co2_refuses, flow_refuses, all_taken, words_made}
+use Rattle.recorder.proofs.PromiseLaws.{hour_promise}
 use Rattle.recorder.specs.declared.RecorderHour.{RecorderHour}
 use Rattle.recorder.specs.declared.Recorded.{Recorded}
 use Rattle.recorder.specs.declared.Channel.TheVariants.{So2, Nox, Co2, Flow}

@@ -3,7 +3,7 @@ use mathlib.Core.Path.{sym, subst}
 use borrow.Author.Rules.{rules}
 use lib.Dec.{T}
 use lib.Ieee.{Float, binary64, fits}
-use Rattle.recorder.specs.FloatLaws.{unlike_parts, like_itself, low_pattern, high_pattern}
+use Rattle.recorder.proofs.FloatLaws.{unlike_parts, like_itself, low_pattern, high_pattern}
 use Rattle.recorder.proofs.parts_of.Statement.{statement}
 use Rattle.recorder.proofs.parts_of.Tie as tie
 

@@ -2,7 +2,7 @@
 use mathlib.Core.Path.{sym, subst}
 use borrow.Author.Rules.{rules}
 use Rattle.recorder.specs.Parts.{Tries}
-use Rattle.recorder.specs.RecorderLaws.{measured_tries, substituted_tries, absent_tries}
+use Rattle.recorder.proofs.RecorderLaws.{measured_tries, substituted_tries, absent_tries}
 use Rattle.recorder.specs.declared.RecorderReading.{RecorderReading}
 use Rattle.recorder.proofs.reading_tried.Statement.{statement}
 use Rattle.recorder.proofs.reading_tried.Tie as tie

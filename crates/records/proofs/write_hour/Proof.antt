@@ -5,10 +5,10 @@ use native.Mathlib.Omega.{arith}
 use lib.ListN.{length}
 use Rattle.columns.specs.Columns.{put}
 use Rattle.columns.specs.Written.{digits_of}
-use Rattle.columns.specs.WrittenLaws.{digits_length}
+use Rattle.columns.proofs.WrittenLaws.{digits_length}
 use Rattle.layout.specs.Layout.{length_of, date_width, offset_of}
-use Rattle.layout.specs.PlaceLaws.{line_inside}
-use Rattle.layout.specs.RunLaws.{dated_below}
+use Rattle.layout.proofs.PlaceLaws.{line_inside}
+use Rattle.layout.proofs.RunLaws.{dated_below}
 use Rattle.records.specs.Records.{ended, dated_record}
 use Rattle.records.specs.RecordLaws.{dated_length}
 use Rattle.records.proofs.Lines.{line_put}

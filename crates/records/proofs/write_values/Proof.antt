@@ -6,7 +6,7 @@ use borrow.Author.Rules.{rules}
 use lib.ListN.{length, take}
 use Rattle.layout.specs.Layout.{value_count, values_of, most_values}
 use Rattle.layout.specs.LayoutLaws.{values_most}
-use Rattle.layout.specs.ValueLaws.{value_inside}
+use Rattle.layout.proofs.ValueLaws.{value_inside}
 use Rattle.records.specs.Records.{valued}
 use Rattle.records.proofs.Lines.{values_left, values_more, values_end}
 use Rattle.records.proofs.write_values.Statement.{statement}

@@ -10,6 +10,7 @@ use Rattle.stamp.proofs.read_stamp.Tie as tie
 -- the places of the code, each from the next one below it
 abbrev day : tie.After-two_digits-3 → tie.After-two_digits-2
 day c = c.before
+
 abbrev month : tie.After-two_digits-3 → tie.After-two_digits
 month c = (day c).before
 

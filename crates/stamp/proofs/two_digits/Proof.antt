@@ -6,6 +6,7 @@ use Rattle.stamp.proofs.two_digits.Tie as tie
 
 abbrev start : tie.After-wide-units → tie.Start
 start c = c.before.before.before
+
 shared-slice-read-wide : tie.Need-bounds-line-start
 shared-slice-read-wide c = search rules
 

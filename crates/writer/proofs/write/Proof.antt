@@ -6,7 +6,7 @@ use borrow.Author.Rules.{rules}
 use Rattle.layout.specs.Layout.{stack_width, report_length}
 use Rattle.sheet.specs.Sheet.{shape_of}
 use Rattle.writer.specs.Writable.{Writable}
-use Rattle.writer.specs.TableLaws.{not_refused}
+use Rattle.writer.proofs.TableLaws.{not_refused}
 use Rattle.writer.proofs.Answer.{refused, accepted}
 use Rattle.writer.proofs.write.Statement.{statement}
 use Rattle.writer.proofs.write.Tie as tie

@@ -7,7 +7,7 @@ use native.Mathlib.Omega.{arith}
 use lib.ListN.{drop}
 use Rattle.layout.specs.Layout.{values_of}
 use Rattle.layout.specs.declared.RecordType.{RecordType}
-use Rattle.layout.specs.ValueLaws.{value_inside}
+use Rattle.layout.proofs.ValueLaws.{value_inside}
 use Rattle.lines.specs.LineFaults.{values_fault}
 use Rattle.lines.proofs.Values.{first_fault_lem, next_fault, values_end}
 use Rattle.lines.proofs.faults.values_fault.Statement.{statement}

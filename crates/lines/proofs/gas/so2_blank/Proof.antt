@@ -1,7 +1,7 @@
 -- A value is blank where each of its columns is.
 use mathlib.Core.Path.{sym, ◌∙◌}
 use Rattle.columns.specs.Columns.{columns}
-use Rattle.columns.specs.NumberLaws.{field_empty}
+use Rattle.columns.proofs.NumberLaws.{field_empty}
 use Rattle.lines.specs.LineFaults.{so2_blank}
 use borrow.Author.Rules.{rules}
 use Rattle.lines.proofs.gas.so2_blank.Statement.{statement}

@@ -7,7 +7,7 @@ use Rattle.layout.specs.declared.RecordType.TheVariants.{Operation}
 use Rattle.lines.specs.Lines.{first_line}
 use Rattle.lines.specs.LineFaults.{rising_fault, hour_on, hour_in, said_of}
 use Rattle.lines.specs.Beginning.{stamped_line, operating_at}
-use Rattle.lines.specs.FaultLaws.{said_hour, said_fault}
+use Rattle.lines.proofs.FaultLaws.{said_hour, said_fault}
 use Rattle.lines.specs.declared.operation.OperationLine.TheVariants.{Operating}
 use Rattle.lines.proofs.Answers.{operation_faulty}
 use Rattle.lines.proofs.operation.operating_line.Statement.{statement}

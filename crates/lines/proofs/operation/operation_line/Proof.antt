@@ -2,7 +2,7 @@
 use mathlib.Core.Path.{◌∙◌}
 use borrow.Author.Rules.{rules}
 use Rattle.lines.specs.Lines.{first_line}
-use Rattle.lines.specs.FaultLaws.{common_shape}
+use Rattle.lines.proofs.FaultLaws.{common_shape}
 use Rattle.lines.specs.Pictured.{OperatingLine}
 use Rattle.lines.proofs.Answers.{stamped_operation}
 use Rattle.lines.proofs.operation.operation_line.Statement.{statement}

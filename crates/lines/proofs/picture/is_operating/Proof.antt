@@ -9,7 +9,7 @@ use borrow.Author.Tests.{not-false}
 use lib.ListN.{length, take}
 use lib.Seq.{length-take-le}
 use Rattle.layout.specs.Layout.{length_of}
-use Rattle.layout.specs.ValueLaws.{value_inside}
+use Rattle.layout.proofs.ValueLaws.{value_inside}
 use Rattle.layout.specs.declared.RecordType.TheVariants.{Operation}
 use Rattle.lines.proofs.Pictures.{fitting_operation}
 use Rattle.lines.proofs.picture.is_operating.Statement.{statement}

@@ -12,7 +12,7 @@ use Rattle.columns.specs.Picture.{Fits}
 use Rattle.layout.specs.Layout.{length_of}
 use Rattle.layout.specs.LayoutLaws.{length_least}
 use Rattle.layout.specs.Pictures.{picture_of}
-use Rattle.layout.specs.PictureLaws.{picture_length, picture_taken}
+use Rattle.layout.proofs.PictureLaws.{picture_length, picture_taken}
 use Rattle.layout.specs.declared.RecordType.{RecordType}
 use Rattle.lines.proofs.Pictures.{pictured}
 use Rattle.lines.proofs.picture.is_pictured.Statement.{statement}

@@ -9,9 +9,9 @@ use lib.Seq.{length-take-le}
 use borrow.Author.Tests.{not-true, not-false}
 use Rattle.columns.specs.Bytes.{is_printable, all}
 use Rattle.lines.specs.Lines.{first_line}
-use Rattle.lines.specs.LineLaws.{first_take}
+use Rattle.lines.proofs.LineLaws.{first_take}
 use Rattle.lines.specs.LineFaults.{type_is}
-use Rattle.lines.specs.LineLaws.{line_part}
+use Rattle.lines.proofs.LineLaws.{line_part}
 use Rattle.lines.proofs.Shapes.{fault_type, fault_length, fault_bytes, line_alone}
 use borrow.Author.Rules.{rules}
 use Rattle.lines.proofs.shape.shape_fault.Statement.{statement}

@@ -3,7 +3,7 @@ use Prim.Native.Nat.{◌≤◌}
 use mathlib.Core.Path.{◌≡◌, sym, ap, ◌∙◌}
 use native.Mathlib.Omega.{arith}
 use Rattle.layout.specs.Layout.{date_column}
-use Rattle.layout.specs.RunLaws.{dated_count}
+use Rattle.layout.proofs.RunLaws.{dated_count}
 use Rattle.layout.specs.declared.Row.{Row}
 use Rattle.reading.proofs.Runs.{undated_due, dated_due}
 use borrow.Author.Rules.{rules}

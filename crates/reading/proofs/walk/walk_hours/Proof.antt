@@ -15,7 +15,7 @@ use Rattle.lines.specs.LineFaults.{type_is, hour_line}
 use Rattle.lines.specs.declared.Period.{Period}
 use Rattle.lines.specs.declared.HourLine.{HourLine}
 use Rattle.reading.specs.Places.{facility_of}
-use Rattle.columns.specs.ColumnsLaws.{part_end}
+use Rattle.columns.proofs.ColumnsLaws.{part_end}
 use Rattle.reading.proofs.Rising.{Rising, rising_start, rising_counted, rising_end, rising_other, rising_found, rising_next}
 use Rattle.reading.proofs.walk.walk_hours.Statement.{statement}
 use Rattle.reading.proofs.walk.walk_hours.Tie as tie

@@ -18,7 +18,7 @@ use Rattle.lines.specs.declared.operation.OperationLine.{OperationLine}
 use Rattle.reading.specs.Reading.{next_date}
 use Rattle.reading.specs.Places.{facility_of, hour_lines_in}
 use Rattle.reading.specs.declared.walk.Cursor.{Cursor}
-use Rattle.columns.specs.ColumnsLaws.{part_end}
+use Rattle.columns.proofs.ColumnsLaws.{part_end}
 use Rattle.reading.proofs.Listing.{Listing, listing_start, listing_over, listing_other, listing_found, listing_idle, listing_operating}
 use Rattle.reading.proofs.walk.walk_operations.Statement.{statement}
 use Rattle.reading.proofs.walk.walk_operations.Tie as tie

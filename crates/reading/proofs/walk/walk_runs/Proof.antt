@@ -16,7 +16,7 @@ use Rattle.lines.specs.LineFaults.{Due, due_of, due_fault}
 use Rattle.reading.specs.Reading.{run_of, runs_of}
 use Rattle.reading.specs.Places.{facility_of, hour_lines_in, hour_due}
 use Rattle.reading.specs.declared.walk.Cursor.{Cursor}
-use Rattle.columns.specs.ColumnsLaws.{part_end}
+use Rattle.columns.proofs.ColumnsLaws.{part_end}
 use Rattle.reading.proofs.Runs.{runs_end, due_long}
 use Rattle.reading.proofs.Walking.{Walked, walked_start, walked_join, walked_type, walked_run}
 use Rattle.reading.proofs.Walking.{walked_missing, walked_found, walked_room, walked_next, runs_halted, runs_on}

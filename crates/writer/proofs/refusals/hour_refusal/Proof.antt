@@ -4,7 +4,7 @@ use borrow.Author.Rules.{rules}
 use borrow.Author.Tests.{not-true, not-false}
 use Rattle.formulas.specs.Formulas.{rounded_figures}
 use Rattle.sheet.specs.SheetTests.{readings_hold}
-use Rattle.sheet.specs.TestLaws.{readings_true}
+use Rattle.sheet.proofs.TestLaws.{readings_true}
 use Rattle.sheet.specs.declared.SheetHour.{SheetHour}
 use Rattle.writer.specs.Refusals.{figures_hold, figures_fit}
 use Rattle.writer.specs.OnePass.{values_refusal, hour_refusal}

@@ -6,7 +6,7 @@ use borrow.Author.Tests.{not-true, not-false}
 use Rattle.layout.specs.Layout.{report_length}
 use Rattle.sheet.specs.Sheet.{shape_of}
 use Rattle.sheet.specs.SheetTests.{heading_holds}
-use Rattle.sheet.specs.TestLaws.{heading_true, sheet_true, shape_held}
+use Rattle.sheet.proofs.TestLaws.{heading_true, sheet_true, shape_held}
 use Rattle.writer.proofs.FirstRefusal.{passed, heading_wrong, words_wrong, found_first, room_short, room_enough, none_found}
 use Rattle.writer.proofs.refusals.refusal_of.Statement.{statement}
 use Rattle.writer.proofs.refusals.refusal_of.Tie as tie

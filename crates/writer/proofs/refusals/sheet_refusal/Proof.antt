@@ -8,7 +8,7 @@ use borrow.Author.Tests.{not-true, not-false}
 use Rattle.layout.specs.declared.Shape.{Shape}
 use Rattle.sheet.specs.Sheet.{sheet_hour_count}
 use Rattle.sheet.specs.SheetTests.{hour_holds}
-use Rattle.sheet.specs.TestLaws.{hour_true}
+use Rattle.sheet.proofs.TestLaws.{hour_true}
 use Rattle.writer.specs.OnePass.{refusal_from}
 use Rattle.writer.proofs.OnePass.{pass_whole, pass_kinds, pass_hour, pass_more, pass_end}
 use Rattle.writer.proofs.refusals.sheet_refusal.Statement.{statement}

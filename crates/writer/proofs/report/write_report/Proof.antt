@@ -7,14 +7,14 @@ use lib.Dec.{lit<}
 use borrow.Author.Rules.{rules}
 use Rattle.columns.specs.Columns.{put}
 use Rattle.layout.specs.Layout.{offset_of}
-use Rattle.layout.specs.PlaceLaws.{line_inside}
+use Rattle.layout.proofs.PlaceLaws.{line_inside}
 use Rattle.layout.specs.declared.RecordType.TheVariants.{Facility, QuarterTotals}
 use Rattle.sheet.specs.Sheet.{shape_of, sheet_hours}
 use Rattle.totals.specs.declared.Quarter.{Quarter}
 use Rattle.records.specs.Records.{ended, totals_record}
 use Rattle.writer.specs.Recorded.{report_hours}
 use Rattle.writer.specs.HourLines.{hours_lines}
-use Rattle.writer.specs.ReportLaws.{report_shape}
+use Rattle.writer.proofs.ReportLaws.{report_shape}
 use Rattle.writer.proofs.Hours.{still_fits}
 use Rattle.writer.proofs.HourLines.{report_written_lem}
 use Rattle.writer.proofs.report.write_report.Statement.{statement}

@@ -1,0 +1,9 @@
+pub mod ClauseLaws
+pub mod FallingLaws
+pub mod FractionLaws
+pub mod MeetsLaws
+pub mod ProductLaw
+pub mod QuotientLaw
+pub mod RoundingLaws
+pub mod ScaleLaw
+pub mod SumLaws

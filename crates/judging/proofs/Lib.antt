@@ -1,0 +1,4 @@
+pub mod BoundLaws
+pub mod Examples
+pub mod JudgedLaws
+pub mod JudgedPromiseLaws
