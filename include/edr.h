@@ -1,5 +1,5 @@
 /* The check and the writer of quarterly stack reports, the year to date, hours from a recorder, and sheets kept from before, for C99
-   and C++11. Link with libedr_c.a, which `rt staticlib edr_c` writes to target/staticlib. Behind each pointer are as many elements as
+   and C++11. Link with libedr_c.a, which examples/library writes to target/staticlib. Behind each pointer are as many elements as
    the length after it says, and what a call writes to overlaps nothing else that it is lent; else every call takes anything. Header
    and library belong together: the lengths below have grown, and what a word counts has changed, and both may again. */
 #ifndef EDR_H

@@ -1,4 +1,4 @@
-//! Says where `rt staticlib edr_c` wrote the proved library.
+//! Says where examples/library puts the proved library.
 
 fn main() {
     let root = std::env::var("CARGO_MANIFEST_DIR").expect("cargo sets it");
