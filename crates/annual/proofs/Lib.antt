@@ -3,3 +3,4 @@ pub mod AlwaysLaws
 pub mod Examples
 pub mod JoinedLaws
 pub mod YearLaws
+pub mod NearLaws

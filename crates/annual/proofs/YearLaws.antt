@@ -17,6 +17,7 @@ use Rattle.reading.specs.Recorded.{hours_of}
 use Rattle.judging.specs.Behind.{LieBehind, exact_amount, reported, allowed}
 use Rattle.checker.proofs.PromiseLaws.{promise}
 use Rattle.annual.specs.Joined.{year_numbers, joined_of}
+use Rattle.annual.proofs.NearLaws.{one_more_lem}
 use Rattle.annual.proofs.JoinedLaws.{says_record, same_record, never_record, record_joined}
 use Rattle.annual.specs.Year.{Part, none_of, and_then, joined_from, Consecutive, Summed, so2, co2, heat, reported_year, allowed_year}
 use Rattle.annual.specs.Year.{BehindAll, exact_year, YearPromise}
@@ -35,16 +36,6 @@ parts_behind q (p ∷ ps) =
 part_near : (q : Quantity) (p : Part) (es : List (Entry q)) → LieBehind q (hours_of p.file) es →
     Near (exact_amount q (hours_of p.file) es) (reported q p.answer) (allowed q p.answer.hours)
 part_near q p es b = (promise p.file).bounds p.answer p.accepted q es b
-
--- one quarter more: x lies near t tenths with its half tenth and n hours' share, and z near the others' sum
-one_more_lem : (per : ℕ) (pos : 0 < per) (x z : Fraction) (t rest j n m : ℕ) →
-    Near x (recorded tenth t) (fraction 1 20 (lit< tt) ⊕ fraction n per pos) →
-    Near z (recorded tenth rest) (fraction j 20 (lit< tt) ⊕ fraction m per pos) →
-    Near (x ⊕ z) (recorded tenth (t + rest)) (fraction (suc j) 20 (lit< tt) ⊕ fraction (n + m) per pos)
-one_more_lem per pos x z t rest j n m h k = record {
-  over = omega (arith, mul-le-mul_left z.den h.over, mul-le-mul_left x.den k.over);
-  under = omega (arith, mul-le-mul_left z.den h.under, mul-le-mul_left x.den k.under);
-}
 
 hours_in : List Part → ℕ
 hours_in ps = total_of (λ p. p.answer.hours) ps

@@ -17,6 +17,7 @@ use Rattle.layout.specs.Values.{thousands_of}
 use Rattle.sheet.specs.Sheet.{hour_words, flow_kind, word_of, sheet_hour_count}
 use Rattle.sheet.specs.SheetClauses.{EachHour}
 use Rattle.conversion.specs.Conversion.{kind_right, flow_right, each_word, conversion_refusal, recoded, recoded_from}
+use Rattle.conversion.proofs.HourLimitLaws.{hours, few_says, says_few}
 use Rattle.conversion.specs.ConversionPromise.{kept_kind, kept_value, conversion_clauses}
 
 -- a test of every word
@@ -113,15 +114,6 @@ module _ (sheet : List ℕ) where
   says_whole n = eq-eqb (length sheet % hour_words) 0 (omega (arith, n.1))
 
   module _ (whole : unless (eqb (length sheet % hour_words) 0) 31 ≡ 0) where
-    hours : length sheet % hour_words ≡ 0
-    hours = eqb-true (length sheet % hour_words) 0 (unless_zero _ 30 whole)
-
-    few_says : leb (sheet_hour_count sheet) most_hours ≡ true → length sheet ≤ 6 * 2208
-    few_says e = omega (arith, hours, leb-true (sheet_hour_count sheet) most_hours e)
-
-    says_few : length sheet ≤ 6 * 2208 → leb (sheet_hour_count sheet) most_hours ≡ true
-    says_few h = le-leb (sheet_hour_count sheet) most_hours (omega arith)
-
     abbrev Kinds : ℕ → Type 0
     Kinds k = (j : ℕ) → j < 6 → kept_kind sheet k j ≡ j
 
@@ -129,7 +121,7 @@ module _ (sheet : List ℕ) where
     kinds_say e k h j l = eqb-true _ _ (each_says kind_right sheet e k j (omega arith) l)
 
     say_kinds : EachHour sheet Kinds → each_word kind_right 0 sheet ≡ true
-    say_kinds each = says_each kind_right sheet hours (λ k h j l. eq-eqb _ _ (each k h j l))
+    say_kinds each = says_each kind_right sheet (hours sheet whole) (λ k h j l. eq-eqb _ _ (each k h j l))
 
     abbrev Whole : ℕ → Type 0
     Whole k = kept_value sheet k 4 % 1000 ≡ 0
@@ -138,7 +130,7 @@ module _ (sheet : List ℕ) where
     flows_say e k h = eqb-true (kept_value sheet k 4 % 1000) 0 (each_says flow_right sheet e k flow_kind (omega arith) (omega arith))
 
     say_flows : EachHour sheet Whole → each_word flow_right 0 sheet ≡ true
-    say_flows each = says_each flow_right sheet hours right
+    say_flows each = says_each flow_right sheet (hours sheet whole) right
       where
         right : EachHour sheet (λ k. (j : ℕ) → j < hour_words → flow_right j (get_or sheet (hour_words * k + j) 0) ≡ true)
         right k h j l = go (eqb j flow_kind) refl
@@ -156,7 +148,7 @@ module _ (sheet : List ℕ) where
       let flows = unless (each_word flow_right 0 sheet) 50 in
       told_then whole (few or_else kinds or_else flows) (clause 31 _ ∷ []) _ (told_one (eqb (length sheet % hour_words) 0) 30 _ whole_says says_whole)
       (λ w.
-      told_then few (kinds or_else flows) (clause 31 _ ∷ []) _ (told_one (leb (sheet_hour_count sheet) most_hours) 30 _ (few_says w) (says_few w))
+      told_then few (kinds or_else flows) (clause 31 _ ∷ []) _ (told_one (leb (sheet_hour_count sheet) most_hours) 30 _ (few_says sheet w) (says_few sheet w))
       (λ f.
       told_then kinds flows (clause 31 _ ∷ []) (clause 50 _ ∷ []) (told_one (each_word kind_right 0 sheet) 30 _ (kinds_say w) (say_kinds w))
       (λ k. told_one (each_word flow_right 0 sheet) 49 _ (flows_say w) (say_flows w))))

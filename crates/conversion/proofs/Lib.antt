@@ -3,3 +3,4 @@ pub mod Answer
 pub mod ConversionLaws
 pub mod Examples
 pub mod SameReportLaws
+pub mod HourLimitLaws

@@ -18,6 +18,7 @@ use Rattle.totals.proofs.TotalLaws.{quarter_so2, quarter_co2, quarter_heat, quar
 use Rattle.formulas.specs.declared.hour.Hour.{Hour}
 use Rattle.formulas.specs.declared.hour.Quantity.{Quantity}
 use Rattle.formulas.specs.declared.hour.Quantity.TheVariants.{Heat, So2, Nox, Co2}
+use Rattle.judging.proofs.ShareLaws.{ton_share, plain_share}
 use Rattle.judging.specs.Behind.{LieBehind, exact_share, exact_sum, exact_amount, reported, allowed}
 
 module _ (q : Quantity) where
@@ -78,15 +79,6 @@ mean_bound hs es w b =
     let t = rates_total Nox (λ r. r.figure) (λ h. h.figures.nox) (λ h e x y. refl) hs es w b in
     rw (rates_sum Nox (λ r. r.value) (λ h e x y. refl) hs es w b, t, rates_length Nox hs es w b)
     at (mean_near thousandth l _ (records_rounded thousandth (recorded thousandth (total_of (λ r. r.figure) l) ÷ whole (length l))))
-
--- n half tenths over 2,000 and over 1, and the total's own half tenth
-ton_share : (n : ℕ) → ((halves tenth n ÷ whole pounds_per_ton) ⊕ half tenth) ≤ᶠ (fraction 1 20 (lit< tt) ⊕ fraction n 40_000 (lit< tt))
-unfolding over
-ton_share n = omega arith
-
-plain_share : (n : ℕ) → ((halves tenth n ÷ whole 1) ⊕ half tenth) ≤ᶠ (fraction 1 20 (lit< tt) ⊕ fraction n 20 (lit< tt))
-unfolding over
-plain_share n = omega arith
 
 pub amount_bound : (q : Quantity) (hs : List Hour) (es : List (Entry q)) → HoursWithin hs → LieBehind q hs es →
     Near (exact_amount q hs es) (reported q (quarter_totals hs)) (allowed q (length hs))

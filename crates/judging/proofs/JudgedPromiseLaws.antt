@@ -26,13 +26,10 @@ use Rattle.judging.specs.JudgedPromise.{SaidAsFormed, total_clauses, FirstDiffer
 use Rattle.judging.specs.JudgedPromise.OfRow.{of_hour, of_quarter}
 use Rattle.judging.proofs.JudgedLaws.{each_figure, Passes, hour_clauses, hour_told, hour_rises, NoFailure, hours_accepted, hours_pass, Failing, hours_refused}
 use Rattle.judging.proofs.JudgedLaws.{totals_accepted, totals_agree, totals_differ, same_said, said_same_lem}
+use Rattle.judging.proofs.HourLaws.{hour_behind}
 use Rattle.judging.specs.declared.FigureRow.{FigureRow}
 use Rattle.judging.specs.declared.Verdict.{Verdict}
 use Rattle.judging.specs.declared.Verdict.TheVariants.{Accepted}
-
--- behind every figure of an hour without a failure lie readings
-hour_behind : (h : Hour) → HourWithin h → hour_failure h ≡ 0 → (q : Quantity) → (e : Entry q) × LiesBehind q h e
-hour_behind h w e q = (test_exact q h w.readings).0 (each_figure (λ q. passes_test q h ≡ true) ((hour_told h).right e) q)
 
 pass_behind : (q : Quantity) (hs : List Hour) → HoursWithin hs → NoFailure hs → (es : List (Entry q)) × LieBehind q hs es
 pass_behind q [] w p = ([], tt)

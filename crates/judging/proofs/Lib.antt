@@ -2,3 +2,5 @@ pub mod BoundLaws
 pub mod Examples
 pub mod JudgedLaws
 pub mod JudgedPromiseLaws
+pub mod ShareLaws
+pub mod HourLaws

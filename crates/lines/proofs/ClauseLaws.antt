@@ -30,7 +30,8 @@ use Rattle.lines.specs.LineFaults.{type_is, shape_fault, stack_of, stack_fault, 
 use Rattle.lines.specs.LineFaults.{rising_fault, date_on, hour_on, dated_fault, so2_fault, hour_fault, due_of, date_fault, has_gas, so2_blank, gas_fault, due_fault}
 use Rattle.lines.specs.LineFaults.{time_in, operates, idle_fault, operating_fault, timed_fault, operation_fault}
 use Rattle.lines.proofs.RightLaws.{paper_row_lem, reads_field, field_reads}
-use Rattle.lines.proofs.RightLaws.{number_digits, date_right, right_date, date_says, says_date, gas_either, either_gas, field_number, idle_says, blank_right}
+use Rattle.lines.proofs.DateLaws.{date_says, says_date}
+use Rattle.lines.proofs.RightLaws.{number_digits, date_right, right_date, gas_either, either_gas, field_number, idle_says, blank_right}
 use Rattle.lines.proofs.RightLaws.{right_blank}
 use Rattle.lines.specs.Clauses.{shape_clauses, facility_clauses, headed_clauses, value_clauses, values_clauses, Dates, hour_clauses, due_clauses}
 use Rattle.lines.specs.Clauses.{any_time, Positive, listed_clauses, of_line_checks}

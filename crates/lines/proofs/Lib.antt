@@ -14,3 +14,4 @@ pub mod OperationLaws
 pub mod PictureExamples
 pub mod RightLaws
 pub mod WidthExamples
+pub mod DateLaws

@@ -37,6 +37,7 @@ use Rattle.lines.specs.LineFaults.{type_is, shape_fault, stack_of, stack_fault, 
 use Rattle.lines.specs.LineFaults.{facility_fault, rising_fault, date_on, hour_on, dated_fault, hour_number, hour_in, so2_fault, hour_fault}
 use Rattle.lines.specs.LineFaults.{due_of, date_fault, has_gas, so2_blank, gas_fault, due_fault, time_in, operates, idle_fault, operating_fault, timed_fault}
 use Rattle.lines.specs.LineFaults.{operation_fault}
+use Rattle.lines.proofs.DateLaws.{date_says, says_date}
 use Rattle.lines.proofs.FaultLaws.{shape_type, shape_length, field_within, field_right, due_right, right_due}
 use Rattle.lines.proofs.OperationLaws.{operating_values, operating_date}
 use Rattle.lines.specs.RightLine.{operating_time, PaperRow, paper_row, Shaped, Headed, Reads, RightValue, BlankIn, RightFacility, RightDate, RightHour, RightDue, RightListed, Idles}
@@ -260,16 +261,6 @@ module _ (facility : List ℕ) (p : Period) (from : ℕ) (line : List ℕ) where
 -- a line of another type
 
 module _ (facility : List ℕ) (t : RecordType) (hour line : List ℕ) where
-  pub date_says : (c : ℕ) → date_fault c (date_on So2Concentration hour) line ≡ 0 → 1 ≤ c → columns c date_width line ≡ date_on So2Concentration hour
-  unfolding date_fault
-  date_says zero e h = absurd (omega arith)
-  date_says (suc c) e h = (same_eq _ _).0 (unless_zero (same (columns (suc c) date_width line) (date_on So2Concentration hour)) 6 e)
-
-  pub says_date : (c : ℕ) → (1 ≤ c → columns c date_width line ≡ date_on So2Concentration hour) → date_fault c (date_on So2Concentration hour) line ≡ 0
-  unfolding date_fault
-  says_date zero e = refl
-  says_date (suc c) e = rw ((same_eq (columns (suc c) date_width line) (date_on So2Concentration hour)).1 (e (omega arith)))
-
   empty_says : (f : Field) → is_empty f ≡ true → f ≡ Blank
   unfolding is_empty
   empty_says Blank e = refl
@@ -309,7 +300,7 @@ module _ (facility : List ℕ) (t : RecordType) (hour line : List ℕ) where
       let r = due_right facility (due_of t hour) line e in
       record {
         headed = common_right t line facility r.common;
-        date = rw (paper_row_lem t) (date_says (date_column t) r.date);
+        date = rw (paper_row_lem t) (date_says facility t hour line (date_column t) r.date);
         gas = gas_either (record_of t).gas refl r.gas;
         values = rw (paper_row_lem t) (listed_values line (values_of t) r.values);
       }
@@ -318,7 +309,7 @@ module _ (facility : List ℕ) (t : RecordType) (hour line : List ℕ) where
   says_due r =
       right_due facility (due_of t hour) line (record {
         common = right_common t line facility r.headed;
-        date = says_date (date_column t) (rw (paper_row_lem t) at r.date);
+        date = says_date facility t hour line (date_column t) (rw (paper_row_lem t) at r.date);
         gas = either_gas (record_of t).gas refl r.gas;
         values = values_listed line (values_of t) (rw (paper_row_lem t) at r.values);
       })

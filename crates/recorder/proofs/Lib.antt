@@ -5,3 +5,4 @@ pub mod FloatLaws
 pub mod PromiseLaws
 pub mod RecorderLaws
 pub mod UsableLaws
+pub mod ReadingLaws

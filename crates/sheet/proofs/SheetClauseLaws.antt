@@ -20,6 +20,7 @@ use Rattle.sheet.specs.SheetTests.{every, heading_holds, kinds_rise_in, hour_kin
 use Rattle.sheet.specs.SheetTests.{sheet_holds, sheet_holds_in, readings_hold, readings_hold_in}
 use Rattle.sheet.specs.SheetClauses.{hour_at, EachHour, heading_clauses, shape_clauses, ValuesInRange, value_clauses}
 use Rattle.sheet.proofs.TestLaws.{every_hour, hour_every, rise_first, rise_hour, readings_true}
+use Rattle.sheet.proofs.WordLaws.{words_say, say_words}
 use Rattle.sheet.specs.declared.SheetHour.{SheetHour}
 
 -- year, quarter and stack name
@@ -50,13 +51,7 @@ module _ (sheet : List ℕ) where
     pub says_each : EachHour sheet (λ k. p (sheet_hour sheet k) ≡ true) → every p (sheet_hours sheet) ≡ true
     says_each each = hour_every p sheet (λ k h. each k (omega arith))
 
-  -- words and kinds
-
-  words_say : eqb (length sheet % hour_words) 0 ≡ true → (n : ℕ) × (length sheet ≡ 6 * n)
-  words_say e = (sheet_hour_count sheet, omega (arith, eqb-true (length sheet % hour_words) 0 e))
-
-  say_words : (n : ℕ) × (length sheet ≡ 6 * n) → eqb (length sheet % hour_words) 0 ≡ true
-  say_words n = eq-eqb (length sheet % hour_words) 0 (omega (arith, n.1))
+  -- kinds
 
   -- of any form
   module _ (f : SheetForm) where

@@ -4,7 +4,7 @@ use mathlib.Core.Path.{◌≡◌, refl, sym, ap, subst, ◌∙◌}
 use mathlib.Core.List.{List}
 use native.Mathlib.Omega.{arith}
 use lib.ListN.{length}
-use Rattle.layout.specs.Layout.{line_of}
+use Rattle.layout.specs.Layout.{line_of, shape as layout_shape}
 use Rattle.layout.specs.LayoutLaws.{count_most}
 use Rattle.layout.specs.declared.RecordType.{RecordType}
 use Rattle.layout.specs.declared.RecordType.TheVariants.{QuarterTotals}
@@ -14,6 +14,7 @@ use Rattle.judging.specs.declared.Failure.{Failure}
 use Rattle.reading.specs.Recorded.{Line, records_of, record_at}
 use Rattle.reading.specs.Places.{Standing, Stands}
 use Rattle.reading.specs.RankLaws.{once_stands}
+use Rattle.reading.specs.RecordLaws.{records_standing}
 use Rattle.checker.specs.Checked.{line_named}
 use Rattle.checker.proofs.failure_line.Statement.{statement}
 use Rattle.checker.proofs.failure_line.Tie as tie
@@ -80,7 +81,10 @@ line-of-requires-2 : tie.Need-line_of-requires-2
 line-of-requires-2 c κs =
     let t = c.before in
     let x = hourly (known t) in
-    ((standing x).held, omega (arith, c.place_of-place.ensures.inside, count_most (shape x) (standing x).held t.type_named-t.result))
+    -- where no line is idle, the place is the hour's rank, and that lies within too
+    let less = records_standing (file x) (shape x) (standing x) t.type_named-t.result in
+    let most = count_most (layout_shape (shape x).hours) (record { hours = (standing x).held.hours; operations = (standing x).held.hours }) t.type_named-t.result in
+    ((standing x).held, omega (arith, c.place_of-place.ensures.inside, count_most (shape x) (standing x).held t.type_named-t.result, there t, less, most))
 
 returns-2 : tie.Need-returns
 returns-2 c =
