@@ -31,7 +31,8 @@ use Rattle.layout.specs.declared.RecordType.{RecordType}
 use Rattle.layout.specs.declared.RecordType.TheVariants.{Facility, So2Concentration, Operation, QuarterTotals, So2Mass}
 use Rattle.lines.specs.LineFaults.{common_fault, field_in, values_fault, digits_in, facility_fault, facility_line, so2_fault, has_gas, so2_blank, gas_fault, date_on}
 use Rattle.lines.specs.LineFaults.{rising_fault, hour_on, dated_fault, hour_fault, hour_number, hour_line, due_of, date_fault, due_fault, operates, operation_line}
-use Rattle.lines.proofs.FaultLaws.{DueRight, so2_right}
+use Rattle.lines.specs.FaultLaws.{DueRight}
+use Rattle.lines.proofs.FaultLaws.{so2_right}
 use Rattle.lines.proofs.OperationLaws.{operation_said, due_operates, due_operation}
 use Rattle.lines.specs.declared.Period.{Period}
 use Rattle.lines.specs.declared.FacilityLine.TheVariants.{Of}

@@ -24,6 +24,7 @@ use Rattle.exact.specs.Faults.{unless, or_zero, unless_zero}
 use Rattle.lines.specs.LineFaults.{type_is, shape_fault, stack_of, common_fault, field_fault, field_in, values_fault, digits_in, period_on}
 use Rattle.lines.specs.LineFaults.{facility_fault, facility_line, rising_fault, date_on, hour_on, dated_fault, hour_said, hour_fault, hour_number, hour_in, hour_line}
 use Rattle.lines.specs.LineFaults.{so2_fault, Due, date_fault, gas_fault, due_fault}
+use Rattle.lines.specs.FaultLaws.{ValuesFormed, ValuesRight, DueRight}
 use Rattle.lines.specs.declared.Period.{Period}
 use Rattle.lines.specs.declared.FacilityLine.TheVariants.{Of, Faulty as FaultyFacility}
 use Rattle.lines.specs.declared.HourLine.TheVariants.{At as OfHour, Faulty as FaultyHour}
@@ -87,10 +88,6 @@ all_formed [] line e i d h = absurd (not-suc-le-zero h)
 all_formed (v ∷ vs) line e zero d h = field_formed v (field_in v line) (or_zero (field_fault v (field_in v line)) _ e).0
 all_formed (v ∷ vs) line e (suc i) d h = all_formed vs line (or_zero (field_fault v (field_in v line)) _ e).1 i d (le_of_suc-le-suc h)
 
--- no value of a line of a type is malformed
-abbrev pub ValuesFormed : RecordType → List ℕ → Type 0
-ValuesFormed t line = (i : ℕ) → i < value_count t → field_in (value_at t i) line ≡ Malformed → ⊥
-
 pub values_formed : (t : RecordType) (line : List ℕ) → values_fault (values_of t) line ≡ 0 → ValuesFormed t line
 values_formed t line e i h = all_formed (values_of t) line e i no_value h
 
@@ -100,10 +97,6 @@ unfolding field_fault so2_fault is_empty
 so2_right Blank e = absurd (omega arith)
 so2_right Malformed e = absurd (omega arith)
 so2_right (Number k) e = (e, refl)
-
--- every value of a line of a type lies in its range
-abbrev pub ValuesRight : RecordType → List ℕ → Type 0
-ValuesRight t line = (i : ℕ) → i < value_count t → Within (value_at t i) (number_of (field_in (value_at t i) line))
 
 pub values_right : (t : RecordType) (line : List ℕ) → values_fault (values_of t) line ≡ 0 → ValuesRight t line
 values_right t line e i h = values_within (values_of t) line e i no_value h
@@ -200,13 +193,6 @@ pub hour_said_lem : (facility : List ℕ) (period : Period) (from : ℕ) (line :
     (hour_fault facility period from line ≡ 0) × (hour_in period So2Concentration line ≡ hour)
 unfolding hour_line
 hour_said_lem facility period from line hour e = said_hour (hour_fault facility period from line) (hour_in period So2Concentration line) hour e
-
--- a line that is due, part by part
-pub record DueRight (facility : List ℕ) (d : Due) (line : List ℕ) : Type 0 where
-  pub common : common_fault facility d.type line ≡ 0
-  pub date : date_fault (date_column d.type) (date_on So2Concentration d.hour) line ≡ 0
-  pub gas : gas_fault (record_of d.type).gas d.hour line ≡ 0
-  pub values : values_fault (values_of d.type) line ≡ 0
 
 module _ (facility : List ℕ) (d : Due) (line : List ℕ) where
   pub due_right : due_fault facility d line ≡ 0 → DueRight facility d line

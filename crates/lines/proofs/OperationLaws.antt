@@ -18,7 +18,8 @@ use Rattle.layout.specs.Values.{time_hours, listed_time, heat_rate}
 use Rattle.layout.specs.declared.RecordType.TheVariants.{So2Concentration, Operation}
 use Rattle.lines.specs.LineFaults.{shape_fault, field_fault, field_in, values_fault, date_on, rising_fault, hour_on, dated_fault, hour_in, date_fault, due_of}
 use Rattle.lines.specs.LineFaults.{time_in, operates, idle_fault, operating_fault, timed_fault, operation_fault, said_of, operation_line}
-use Rattle.lines.proofs.FaultLaws.{shape_length, field_within, field_right, field_formed, ValuesFormed, dated_shape, DueRight}
+use Rattle.lines.specs.FaultLaws.{ValuesFormed, DueRight}
+use Rattle.lines.proofs.FaultLaws.{shape_length, field_within, field_right, field_formed, dated_shape}
 use Rattle.lines.specs.declared.Period.{Period}
 use Rattle.lines.specs.declared.operation.OperationLine.TheVariants.{Operating, Idle}
 

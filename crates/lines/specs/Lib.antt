@@ -4,3 +4,4 @@ pub mod Beginning
 pub mod RightLine
 pub mod Clauses
 pub mod Pictured
+pub mod FaultLaws

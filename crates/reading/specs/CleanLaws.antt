@@ -14,7 +14,8 @@ use Rattle.layout.specs.declared.Shape.{Shape}
 use Rattle.lines.specs.Lines.{first_line, lines, last}
 use Rattle.lines.proofs.LineLaws.{lines_at_lem, line_at}
 use Rattle.lines.specs.LineFaults.{type_is, shape_fault, Due, due_of, due_fault}
-use Rattle.lines.proofs.FaultLaws.{shape_type, shape_length, ValuesRight, values_right, due_shape, due_right, ValuesFormed, values_formed}
+use Rattle.lines.specs.FaultLaws.{ValuesRight, ValuesFormed}
+use Rattle.lines.proofs.FaultLaws.{shape_type, shape_length, values_right, due_shape, due_right, values_formed}
 use Rattle.lines.proofs.EndLaws.{line_within}
 use Rattle.lines.specs.RightLine.{RightDue}
 use Rattle.lines.proofs.RightLaws.{says_due}

@@ -13,7 +13,8 @@ use Rattle.layout.specs.Layout.{length_of}
 use Rattle.layout.specs.declared.RecordType.TheVariants.{Operation}
 use Rattle.lines.specs.Lines.{lines, last}
 use Rattle.lines.specs.LineFaults.{operates}
-use Rattle.lines.proofs.FaultLaws.{shape_type, ValuesRight, values_right, dated_rises}
+use Rattle.lines.specs.FaultLaws.{ValuesRight}
+use Rattle.lines.proofs.FaultLaws.{shape_type, values_right, dated_rises}
 use Rattle.lines.proofs.OperationLaws.{operation_dated, operation_shape, operation_formed, operating_values}
 use Rattle.lines.specs.RightLine.{RightListed}
 use Rattle.lines.proofs.RightLaws.{RightTime, right_operation}

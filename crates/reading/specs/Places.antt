@@ -8,7 +8,7 @@ use Rattle.layout.specs.declared.RecordType.TheVariants.{Facility, So2Concentrat
 use Rattle.layout.specs.declared.Shape.{Shape}
 use Rattle.lines.specs.Lines.{lines}
 use Rattle.lines.specs.LineFaults.{type_is, operates}
-use Rattle.lines.proofs.FaultLaws.{ValuesFormed}
+use Rattle.lines.specs.FaultLaws.{ValuesFormed}
 use Rattle.reading.specs.Recorded.{Line, lines_with, records_of, record_at}
 
 abbrev pub facility_of : List ℕ → List ℕ

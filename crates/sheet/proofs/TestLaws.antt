@@ -12,6 +12,7 @@ use Rattle.layout.specs.LayoutLaws.{within_true, scfh_back, flow_within}
 use Rattle.formulas.specs.Hour.{ReadingsWithin}
 use Rattle.stamp.specs.StampLaws.{is_quarter_lem}
 use Rattle.sheet.specs.Sheet.{hour_words, sheet_hour, recorded_readings, sheet_hour_count, shape_of, sheet_hours, sheet_hours_in}
+use Rattle.sheet.specs.TestLaws.{Shaped}
 use Rattle.sheet.specs.SheetTests.{Heading, every, heading_holds, kinds_hold, hour_holds, hours_rise, sheet_holds, readings_hold, sheet_holds_in, readings_hold_in}
 use Rattle.sheet.proofs.SheetLaws.{sheet_hours_count}
 use Rattle.sheet.specs.declared.SheetHour.{SheetHour}
@@ -23,13 +24,6 @@ heading_true year quarter name e =
     let b = both _ _ a.0 in
     let c = both _ _ b.0 in
     record { year_within = within_true _ year c.0; is_quarter = is_quarter_lem quarter (within_true _ quarter c.1); named = b.1; printable = a.1 }
-
--- a sheet that 31 does not refuse
-pub record Shaped (year quarter : ℕ) (name sheet : List ℕ) : Type 0 where
-  pub heading : Heading year quarter name
-  pub words : length sheet % hour_words ≡ 0
-  pub kinds : kinds_hold sheet 0 (sheet_hour_count sheet) ≡ true
-  pub rises : hours_rise (hours_in_quarter year quarter) 0 (sheet_hours sheet) ≡ true
 
 pub sheet_true : (year quarter : ℕ) (name sheet : List ℕ) → sheet_holds year quarter name sheet ≡ true → Shaped year quarter name sheet
 unfolding sheet_holds_in

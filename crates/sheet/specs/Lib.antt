@@ -1,3 +1,4 @@
 pub mod Sheet
 pub mod SheetTests
 pub mod SheetClauses
+pub mod TestLaws

@@ -5,7 +5,7 @@ use Rattle.calendar.specs.Calendar.{hours_in_quarter}
 use Rattle.layout.specs.Layout.{Held, stack_width, report_length}
 use Rattle.formulas.specs.Hour.{HourWithin}
 use Rattle.sheet.specs.Sheet.{sheet_hour, sheet_hour_count, shape_of}
-use Rattle.sheet.proofs.TestLaws.{Shaped}
+use Rattle.sheet.specs.TestLaws.{Shaped}
 use Rattle.writer.specs.Recorded.{ReportHour, report_hour}
 
 -- an hour that can be written
