@@ -17,7 +17,7 @@ use Rattle.layout.specs.Values.{thousands_of}
 use Rattle.sheet.specs.Sheet.{hour_words, flow_kind, word_of, sheet_hour_count}
 use Rattle.sheet.specs.SheetClauses.{EachHour}
 use Rattle.conversion.specs.Conversion.{kind_right, flow_right, each_word, conversion_refusal, recoded, recoded_from}
-use Rattle.conversion.proofs.HourLimitLaws.{hours, few_says, says_few}
+use Rattle.conversion.proofs.HourLimitLaws.{hours, hours_few, few_says, says_few}
 use Rattle.conversion.specs.ConversionPromise.{kept_kind, kept_value, conversion_clauses}
 
 -- a test of every word
@@ -143,12 +143,12 @@ module _ (sheet : List ℕ) where
   unfolding conversion_refusal
   refusal_told =
       let whole = unless (eqb (length sheet % hour_words) 0) 31 in
-      let few = unless (leb (sheet_hour_count sheet) most_hours) 31 in
+      let few = unless (hours_few sheet) 31 in
       let kinds = unless (each_word kind_right 0 sheet) 31 in
       let flows = unless (each_word flow_right 0 sheet) 50 in
       told_then whole (few or_else kinds or_else flows) (clause 31 _ ∷ []) _ (told_one (eqb (length sheet % hour_words) 0) 30 _ whole_says says_whole)
       (λ w.
-      told_then few (kinds or_else flows) (clause 31 _ ∷ []) _ (told_one (leb (sheet_hour_count sheet) most_hours) 30 _ (few_says sheet w) (says_few sheet w))
+      told_then few (kinds or_else flows) (clause 31 _ ∷ []) _ (told_one (hours_few sheet) 30 _ (few_says sheet w) (says_few sheet w))
       (λ f.
       told_then kinds flows (clause 31 _ ∷ []) (clause 50 _ ∷ []) (told_one (each_word kind_right 0 sheet) 30 _ (kinds_say w) (say_kinds w))
       (λ k. told_one (each_word flow_right 0 sheet) 49 _ (flows_say w) (say_flows w))))

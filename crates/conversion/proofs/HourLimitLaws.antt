@@ -1,9 +1,13 @@
 -- The test of how many hours a sheet has tells of its clause.
-use Rattle.std.specs.Prelude.{◌≡◌, ℕ, ◌*◌, ◌%◌, ◌≤◌, true, List, length, eqb, leb}
+use Rattle.std.specs.Prelude.{◌≡◌, ℕ, ◌*◌, ◌%◌, ◌≤◌, Bool, true, List, length, eqb, leb}
 use Rattle.std.proofs.Common.{arith, eqb-true, leb-true, le-leb}
 use Rattle.exact.specs.Faults.{unless, unless_zero}
 use Rattle.calendar.specs.Calendar.{most_hours}
 use Rattle.sheet.specs.Sheet.{hour_words, sheet_hour_count}
+
+-- the test
+abbrev pub hours_few : List ℕ → Bool
+hours_few sheet = leb (sheet_hour_count sheet) most_hours
 
 module _ (sheet : List ℕ) (whole : unless (eqb (length sheet % hour_words) 0) 31 ≡ 0) where
   pub hours : length sheet % hour_words ≡ 0

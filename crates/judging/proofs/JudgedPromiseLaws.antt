@@ -26,7 +26,7 @@ use Rattle.judging.specs.JudgedPromise.{SaidAsFormed, total_clauses, FirstDiffer
 use Rattle.judging.specs.JudgedPromise.OfRow.{of_hour, of_quarter}
 use Rattle.judging.proofs.JudgedLaws.{each_figure, Passes, hour_clauses, hour_told, hour_rises, NoFailure, hours_accepted, hours_pass, Failing, hours_refused}
 use Rattle.judging.proofs.JudgedLaws.{totals_accepted, totals_agree, totals_differ, same_said, said_same_lem}
-use Rattle.judging.proofs.HourLaws.{hour_behind}
+use Rattle.judging.proofs.HourLaws.{hour_behind, set_passes, tries, OfHours, rows_own}
 use Rattle.judging.specs.declared.FigureRow.{FigureRow}
 use Rattle.judging.specs.declared.Verdict.{Verdict}
 use Rattle.judging.specs.declared.Verdict.TheVariants.{Accepted}
@@ -38,14 +38,6 @@ pass_behind q (h ∷ hs) w p =
     let r = pass_behind q hs w.1 p.1 in
     (b.0 ∷ r.0, (b.1, r.1))
 
--- hours with a set behind all their figures have none
-set_passes : (h : Hour) (s : Unrounded) → HourWithin h → ((q : Quantity) → LiesBehind q h (entry_of q s)) → hour_failure h ≡ 0
-set_passes h s w b = told_none (hour_failure h) (hour_clauses h) (hour_told h) (go figure_rows)
-  where
-    go : (rs : List FigureRow) → Hold (row_clauses (λ (t : Tried). t.number) (Passes h) (map tried rs))
-    go [] = tt
-    go (r ∷ rs) = ((test_exact r.quantity h w.readings).1 (entry_of r.quantity s, b r.quantity), go rs)
-
 behind_pass : (hs : List Hour) (sets : List Unrounded) → HoursWithin hs → SetsBehind hs sets → NoFailure hs
 behind_pass [] [] w b = tt
 behind_pass [] (s ∷ ss) w b = absurd b
@@ -53,16 +45,6 @@ behind_pass (h ∷ hs) [] w b = absurd b
 behind_pass (h ∷ hs) (s ∷ ss) w b = (set_passes h s w.0 b.0, behind_pass hs ss w.1 b.1)
 
 -- the numbers of the two tables lie apart
-abbrev tries : List Tried → ℕ → Bool
-tries [] number = false
-tries (t ∷ ts) number = eqb t.number number || tries ts number
-
-abbrev OfHours : ℕ → Type 0
-OfHours number = tries figures_tried number ≡ true
-
-rows_own : All (λ (t : Tried). OfHours t.number) figures_tried
-rows_own = (refl, (refl, (refl, (refl, tt))))
-
 totals_other : All (λ (t : Stated). tries figures_tried t.number ≡ false) stated_totals
 totals_other = (refl, (refl, (refl, (refl, (refl, tt)))))
 

@@ -30,7 +30,7 @@ use Rattle.lines.specs.LineFaults.{type_is, shape_fault, stack_of, stack_fault, 
 use Rattle.lines.specs.LineFaults.{rising_fault, date_on, hour_on, dated_fault, so2_fault, hour_fault, due_of, date_fault, has_gas, so2_blank, gas_fault, due_fault}
 use Rattle.lines.specs.LineFaults.{time_in, operates, idle_fault, operating_fault, timed_fault, operation_fault}
 use Rattle.lines.proofs.RightLaws.{paper_row_lem, reads_field, field_reads}
-use Rattle.lines.proofs.DateLaws.{date_says, says_date}
+use Rattle.lines.proofs.DateLaws.{date_either, date_says, says_date}
 use Rattle.lines.proofs.RightLaws.{number_digits, date_right, right_date, gas_either, either_gas, field_number, idle_says, blank_right}
 use Rattle.lines.proofs.RightLaws.{right_blank}
 use Rattle.lines.specs.Clauses.{shape_clauses, facility_clauses, headed_clauses, value_clauses, values_clauses, Dates, hour_clauses, due_clauses}
@@ -95,15 +95,6 @@ values_told (v ∷ vs) line =
 -- a line that is due
 
 module _ (facility : List ℕ) (t : RecordType) (hour line : List ℕ) where
-  date_either : (c : ℕ) (date : List ℕ) → (date_fault c date line ≡ 0) ⊎ (date_fault c date line ≡ 7)
-  unfolding date_fault
-  date_either zero date = inl refl
-  date_either (suc c) date = go (same (columns (suc c) date_width line) date)
-    where
-      go : (b : Bool) → (unless b 7 ≡ 0) ⊎ (unless b 7 ≡ 7)
-      go true = inl refl
-      go false = inr refl
-
   gas_apart : (g : Bool) → (gas_fault g hour line ≡ 0) ⊎ (gas_fault g hour line ≡ 49)
   unfolding gas_fault
   gas_apart false = inl refl
@@ -118,7 +109,7 @@ module _ (facility : List ℕ) (t : RecordType) (hour line : List ℕ) where
   due_told =
       told_or _ _ (headed_clauses facility t line) _ (headed_told t line facility) (rw (paper_row_lem t)
       (told_or _ _ (clause 7 _ ∷ []) _
-      (told_by _ 6 _ (date_either (date_column t) (date_on So2Concentration hour)) (date_says facility t hour line (date_column t))
+      (told_by _ 6 _ (date_either facility t hour line (date_column t) (date_on So2Concentration hour)) (date_says facility t hour line (date_column t))
       (says_date facility t hour line (date_column t)))
       (told_or _ _ (clause 49 _ ∷ []) _
       (told_by _ 48 _ (gas_apart (record_of t).gas) (gas_either facility t hour line (record_of t).gas refl)

@@ -1,7 +1,7 @@
 -- The test of a line's date, by the 200 line of its rank, tells of its clause.
-use Rattle.std.specs.Prelude.{◌≡◌, ℕ, zero, suc, ◌≤◌, List, refl}
-use Rattle.std.proofs.Common.{arith}
-use Rattle.exact.specs.Faults.{unless_zero}
+use Rattle.std.specs.Prelude.{◌≡◌, ℕ, zero, suc, ◌≤◌, ◌⊎◌, List, refl, Bool, true, false, leb}
+use Rattle.std.proofs.Common.{arith, inl, inr}
+use Rattle.exact.specs.Faults.{unless, unless_zero}
 use Rattle.columns.specs.Bytes.{same}
 use Rattle.columns.proofs.BytesLaws.{same_eq}
 use Rattle.columns.specs.Columns.{columns}
@@ -20,3 +20,12 @@ module _ (facility : List ℕ) (t : RecordType) (hour line : List ℕ) where
   unfolding date_fault
   says_date zero e = refl
   says_date (suc c) e = rw ((same_eq (columns (suc c) date_width line) (date_on So2Concentration hour)).1 (e (omega arith)))
+
+  pub date_either : (c : ℕ) (date : List ℕ) → (date_fault c date line ≡ 0) ⊎ (date_fault c date line ≡ 7)
+  unfolding date_fault
+  date_either zero date = inl refl
+  date_either (suc c) date = go (same (columns (suc c) date_width line) date)
+    where
+      go : (b : Bool) → (unless b 7 ≡ 0) ⊎ (unless b 7 ≡ 7)
+      go true = inl refl
+      go false = inr refl

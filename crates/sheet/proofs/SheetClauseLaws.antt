@@ -20,7 +20,7 @@ use Rattle.sheet.specs.SheetTests.{every, heading_holds, kinds_rise_in, hour_kin
 use Rattle.sheet.specs.SheetTests.{sheet_holds, sheet_holds_in, readings_hold, readings_hold_in}
 use Rattle.sheet.specs.SheetClauses.{hour_at, EachHour, heading_clauses, shape_clauses, ValuesInRange, value_clauses}
 use Rattle.sheet.proofs.TestLaws.{every_hour, hour_every, rise_first, rise_hour, readings_true}
-use Rattle.sheet.proofs.WordLaws.{words_say, say_words}
+use Rattle.sheet.proofs.WordLaws.{words_whole, words_say, say_words}
 use Rattle.sheet.specs.declared.SheetHour.{SheetHour}
 
 -- year, quarter and stack name
@@ -149,7 +149,7 @@ module _ (year quarter : ℕ) (name sheet : List ℕ) where
   unfolding sheet_holds_in
   shape_told =
       let heading = heading_holds year quarter name in
-      let words = eqb (length sheet % hour_words) 0 in
+      let words = words_whole sheet in
       let kinds = kinds_hold sheet 0 (sheet_hour_count sheet) in
       let rises = hours_rise (hours_in_quarter year quarter) 0 (sheet_hours sheet) in
       told_both (heading && words && kinds) rises 30 (heading_clauses year quarter name ++ (clause 31 _ ∷ clause 31 _ ∷ [])) (clause 31 _ ∷ clause 31 _ ∷ [])

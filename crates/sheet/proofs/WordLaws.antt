@@ -1,7 +1,11 @@
 -- The test of how many words a sheet has tells of its clause.
-use Rattle.std.specs.Prelude.{◌≡◌, ℕ, ◌*◌, ◌%◌, true, List, length, eqb}
+use Rattle.std.specs.Prelude.{◌≡◌, ℕ, ◌*◌, ◌%◌, Bool, true, List, length, eqb}
 use Rattle.std.proofs.Common.{arith, eqb-true, eq-eqb}
 use Rattle.sheet.specs.Sheet.{hour_words, sheet_hour_count}
+
+-- the test
+abbrev pub words_whole : List ℕ → Bool
+words_whole sheet = eqb (length sheet % hour_words) 0
 
 module _ (sheet : List ℕ) where
   pub words_say : eqb (length sheet % hour_words) 0 ≡ true → (n : ℕ) × (length sheet ≡ 6 * n)
