@@ -24,6 +24,7 @@ pub enum QuarterHour {
     Outside,
 }
 
+#[tactic(auto, unfolding(crate::specs::Calendar::leap_year))]
 pub fn is_leap(year: u64) -> bool
     ensures { result ≡ leap_year year }
 {
