@@ -6,6 +6,7 @@ pub mod Lows
 pub mod Pictures
 pub mod BytesLaws
 pub mod ColumnsLaws
+pub mod Digits
 pub mod EachLaws
 pub mod FormatLaws
 pub mod NumberLaws

@@ -1,5 +1,5 @@
 -- Laws of the loop over the low four bits: one byte further, its room, and the end.
-use Rattle.std.proofs.Common.{◌≡◌, ℕ, suc, ◌+◌, ◌-◌, ◌*◌, ◌%◌, ◌^◌, ◌<◌, ◌≤◌, List, length, get_or, drop, mul-le-mul_right, mul-le-mul_left, pow-suc, add-one, arith, lit<, drop_of_length-le, drop-cons, pow-add}
+use Rattle.std.proofs.Common.{◌≡◌, ℕ, suc, ◌+◌, ◌*◌, ◌%◌, ◌^◌, ◌<◌, ◌≤◌, List, length, get_or, drop, mul-le-mul_right, mul-le-mul_left, pow-suc, add-one, arith, lit<, drop_of_length-le, drop-cons, pow-add}
 use native.Mathlib.Nat.{pow-zero, one-le-pow, pow-le-pow_right}
 use Rattle.columns.specs.Worth.{low_from}
 

@@ -81,6 +81,7 @@ pub fn all_blank(bytes: &[u8]) -> bool
 }
 
 // Digits to the end, behind digits worth `before`.
+#[tactic(auto, using(crate::proofs::Digits::left_first, crate::proofs::Digits::left_stop, crate::proofs::Digits::left_room, crate::proofs::Digits::left_end))]
 fn digits_behind(before: u64, bytes: &[u8]) -> Field
     requires { (before + 1) * 10 ^ length bytes.now ≤ 10 ^ 18 }
     ensures { result ≡ digits_from before bytes.now }
