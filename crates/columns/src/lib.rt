@@ -115,6 +115,7 @@ fn whole_number(bytes: &[u8]) -> Field
     Field::Blank
 }
 
+#[tactic(auto, using(crate::proofs::Reading::fixed_number, crate::proofs::Reading::fixed_pointless, crate::proofs::Reading::fixed_malformed, crate::proofs::Reading::fixed_blanks, crate::proofs::Reading::fixed_room))]
 fn fixed_number(bytes: &[u8], decimals: usize) -> Field
     requires { (decimals < length bytes.now) × (length bytes.now ≤ 18) }
     ensures { result ≡ fixed_of decimals bytes.now }
