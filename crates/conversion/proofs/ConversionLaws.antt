@@ -1,18 +1,17 @@
 -- The words of a kept sheet one by one: what a test of them all says of each, what each becomes, and that the refusal tells of the clauses.
 use Prim.Native.Nat.{ℕ, zero, suc, ◌+◌, ◌*◌, ◌/◌, ◌%◌, ◌≤◌, ◌<◌}
-use Rattle.std.specs.Prelude.{◌≡◌, Bool, false, not, ◌&&◌, ◌||◌, eqb, leb, take, drop, set, get_or}
+use Rattle.std.specs.Prelude.{◌≡◌, Bool, false, not, ◌&&◌, ◌||◌, eqb, take, drop, set, get_or}
 use Rattle.std.proofs.Math.Path.{refl}
-use Rattle.std.proofs.Common.{ap, ◌∙◌, not-suc-le-zero, le_of_suc-le-suc, add-one, drop_of_length-le, take-suc-set, drop-set-lt, eqb-true, eq-eqb, ne_eqb, leb-true, le-leb}
+use Rattle.std.proofs.Common.{ap, ◌∙◌, not-suc-le-zero, le_of_suc-le-suc, add-one, drop_of_length-le, take-suc-set, drop-set-lt, eqb-true, eq-eqb, ne_eqb}
 use Rattle.std.proofs.Math.Bool.{true}
 use mathlib.Core.List.{List, [], ◌∷◌, ◌++◌}
 use native.Mathlib.Omega.{arith}
 use Rattle.std.proofs.Math.ListN.{length}
 use Rattle.std.proofs.Math.Seq.{drop-cons, append_snoc}
 use Rattle.exact.specs.Logic.{both}
-use Rattle.exact.specs.Faults.{◌or_else◌, unless, unless_zero}
+use Rattle.exact.specs.Faults.{◌or_else◌, unless}
 use Rattle.exact.specs.Clauses.{clause}
 use Rattle.exact.proofs.ClauseLaws.{Told, told_then, told_one}
-use Rattle.calendar.specs.Calendar.{most_hours}
 use Rattle.layout.specs.Values.{thousands_of}
 use Rattle.sheet.specs.Sheet.{hour_words, flow_kind, word_of, sheet_hour_count}
 use Rattle.sheet.specs.SheetClauses.{EachHour}

@@ -1,5 +1,5 @@
 -- Laws of fractions. Each is `omega` over monomials, with every hypothesis handed over multiplied by what it lacks.
-use Rattle.std.specs.Prelude.{◌≡◌, refl, ℕ, zero, suc, ◌*◌, ◌≤◌, ◌<◌}
+use Rattle.std.specs.Prelude.{◌≡◌, refl, ℕ, zero, suc, ◌*◌, ◌<◌}
 use Rattle.std.proofs.Common.{mul-le-mul_left, mul-lt-mul_of_pos_right, mul-le-mul, mul-pos, le_of_lt, lt_of_le_of_lt, not-suc-le-zero, arith}
 use Rattle.std.proofs.Math.Nat.{mul-lt-mul_of_pos_left, le_of_mul-le-mul_left, lt_of_mul-lt-mul_left}
 use Rattle.exact.specs.Fraction.{Fraction, ◌≤ᶠ◌, ◌<ᶠ◌, ◌⊕◌, ◌⊗◌, ◌÷◌, over, Near}

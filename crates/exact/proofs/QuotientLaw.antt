@@ -1,7 +1,7 @@
 -- The quotient law: a value of a span and a divisor have c·x/z in a target range exactly where the range meets the values from
 -- c·low/high to c·high/low. It is the same whichever end of the divisors is allowed, so it serves a recorded divisor and one
 -- that falls with its reading.
-use Rattle.std.specs.Prelude.{◌≡◌, true, ◌↔◌, ℕ, ◌*◌, ◌≤◌, ◌<◌}
+use Rattle.std.specs.Prelude.{◌≡◌, true, ◌↔◌, ℕ, ◌*◌, ◌<◌}
 use Rattle.std.proofs.Math.Logic.Iff
 use Rattle.std.proofs.Common.{mul-pos, mul-lt-mul_of_pos_right, le_of_lt, lt_of_le_of_lt, arith}
 use Rattle.std.proofs.Math.Nat.{mul-lt-mul_of_pos_left, lt_of_mul-lt-mul_left}

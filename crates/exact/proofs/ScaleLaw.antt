@@ -1,5 +1,5 @@
 -- The scale law: a value of a span has c·x in a target range exactly where the range meets [c·low, c·high).
-use Rattle.std.specs.Prelude.{◌≡◌, true, ◌↔◌, ℕ, ◌*◌, ◌<◌}
+use Rattle.std.specs.Prelude.{◌≡◌, true, ◌↔◌, ℕ, ◌*◌}
 use Rattle.std.proofs.Math.Logic.Iff
 use Rattle.std.proofs.Common.{mul-pos, mul-lt-mul_of_pos_right, arith}
 use Rattle.exact.specs.Fraction.{Fraction, Positive, ◌<ᶠ◌, ◌⊗◌, plain}

@@ -1,6 +1,6 @@
 -- How far exact sums and means lie from those formed from records: half a unit for each rate, and half a unit for the total's own rounding.
 use Rattle.std.specs.Prelude.{◌≡◌, List, [], ◌∷◌, length}
-use Prim.Native.Nat.{ℕ, zero, suc, ◌*◌, ◌≤◌, ◌<◌}
+use Prim.Native.Nat.{ℕ, zero, suc, ◌*◌, ◌<◌}
 use Rattle.std.proofs.Math.Nat.{mul-pos}
 use Rattle.std.proofs.Common.{mul-le-mul_left}
 use native.Mathlib.Omega.{arith}

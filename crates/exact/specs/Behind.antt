@@ -1,7 +1,7 @@
 -- What lies behind a figure: a value of a span, or values of two whose product or quotient, times a factor lies in a target range.
 -- A target is any half-open range; a figure's own span is one, and so is what two figures' spans have in common.
 -- Definitions only; ScaleLaw.antt, ProductLaw.antt and QuotientLaw.antt prove the tests exact.
-use Rattle.std.specs.Prelude.{Bool, ◌&&◌, ℕ, ◌*◌, ◌<◌, ltb}
+use Rattle.std.specs.Prelude.{Bool, ◌&&◌, ℕ, ◌*◌, ltb}
 use Rattle.exact.specs.Fraction.{Fraction, Positive, ◌≤ᶠ◌, ◌<ᶠ◌, ◌⊗◌, ◌÷◌, plain}
 use Rattle.exact.specs.Rounding.{Span, In, first, end}
 

@@ -1,6 +1,6 @@
 -- Rounding half up at a unit u: k is recorded for the values from k·u − u/2 (or 0, if greater) up to but not including k·u + u/2.
 -- Definitions only; RoundingLaws.antt has what is proved of them.
-use Rattle.std.specs.Prelude.{ℕ, ◌+◌, ◌*◌, ◌-◌, ◌/◌, ◌≤◌, ◌<◌}
+use Rattle.std.specs.Prelude.{ℕ, ◌+◌, ◌*◌, ◌-◌, ◌/◌, ◌<◌}
 use Rattle.std.proofs.Common.{mul-pos, mul-lt-mul_of_pos_right, arith, lit<}
 use Rattle.exact.specs.Fraction.{Fraction, Positive, ◌≤ᶠ◌, ◌<ᶠ◌, fraction}
 

@@ -1,11 +1,10 @@
 -- Whichever list lies behind a quantity's figures, its exact amount lies near the total formed from the figures.
-use Prim.Native.Nat.{ℕ, ◌+◌, ◌*◌, ◌≤◌, ◌<◌}
+use Prim.Native.Nat.{ℕ, ◌+◌, ◌*◌}
 use Rattle.std.specs.Prelude.{◌≡◌, length}
 use Rattle.std.proofs.Math.Path.{refl, ap₂}
 use mathlib.Core.List.{List, [], ◌∷◌}
 use native.Mathlib.Omega.{arith}
-use Rattle.std.proofs.Common.{lit<}
-use Rattle.exact.specs.Fraction.{Fraction, ◌≤ᶠ◌, ◌⊕◌, ◌÷◌, over, fraction, whole, plain, sum_of, Near}
+use Rattle.exact.specs.Fraction.{Fraction, ◌⊕◌, ◌÷◌, whole, plain, sum_of, Near}
 use Rattle.exact.proofs.FractionLaws.{near_weaken}
 use Rattle.exact.specs.Rounding.{recorded, half, halves, half_up}
 use Rattle.exact.proofs.RoundingLaws.{records_rounded}

@@ -1,16 +1,16 @@
 -- The promise holds of the verdict on every list of hours within their ranges. JudgedPromise.antt states it.
-use Rattle.std.specs.Prelude.{ℕ, ◌+◌, ◌≤◌, ◌<◌, ◌≡◌, refl, Bool, true, false, ◌||◌, ◌⊎◌, eqb}
+use Rattle.std.specs.Prelude.{ℕ, ◌+◌, ◌≤◌, ◌<◌, ◌≡◌, refl, true, false, ◌⊎◌}
 use Rattle.std.proofs.Common.{sym, ap, subst, subst₂, ◌∙◌, arith, lit<}
 use Rattle.std.proofs.lemmas.Bool.{false≢true}
-use mathlib.Core.List.{List, [], ◌∷◌, map, Memᴰ}
+use mathlib.Core.List.{List, [], ◌∷◌, Memᴰ}
 use Rattle.std.proofs.Math.Logic.{inl, inr, ⊎_elim}
 use Rattle.exact.specs.Logic.{ranked, ranked_length, All, ranked_all, all_member}
 use Rattle.exact.specs.Fraction.{fraction, Near}
 use Rattle.exact.specs.Rounding.{recorded}
-use Rattle.exact.specs.Clauses.{row_clauses, Hold, FirstFails}
-use Rattle.exact.proofs.ClauseLaws.{told_none, first_apart, first_row}
+use Rattle.exact.specs.Clauses.{Hold, FirstFails}
+use Rattle.exact.proofs.ClauseLaws.{first_apart, first_row}
 use Rattle.formulas.specs.Hour.{tenth, HourWithin, HoursWithin, Unrounded}
-use Rattle.formulas.specs.Formulas.{Entry, entry_of, LiesBehind, passes_test}
+use Rattle.formulas.specs.Formulas.{Entry, passes_test}
 use Rattle.formulas.proofs.FormulaLaws.{test_exact}
 use Rattle.formulas.specs.declared.hour.Hour.{Hour}
 use Rattle.formulas.specs.declared.hour.Quantity.{Quantity}
@@ -19,7 +19,7 @@ use Rattle.totals.proofs.TotalLaws.{quarter_hours}
 use Rattle.totals.specs.Mass.{mass_tons}
 use Rattle.totals.proofs.MassLaws.{mass_near}
 use Rattle.totals.specs.declared.Quarter.{Quarter}
-use Rattle.judging.specs.Judged.{figure_rows, number_for, Tried, tried, figures_tried, Stated, stated_totals, failed_at, hour_failure, compared_totals, judged_quarter}
+use Rattle.judging.specs.Judged.{number_for, Tried, figures_tried, Stated, stated_totals, failed_at, compared_totals, judged_quarter}
 use Rattle.judging.specs.Behind.{LieBehind, SetsBehind, exact_amount, reported, allowed}
 use Rattle.judging.proofs.BoundLaws.{amount_bound}
 use Rattle.judging.specs.JudgedPromise.{SaidAsFormed, total_clauses, FirstDiffers, OfRow, FailsFirst, DiffersFirst, JudgedPromise}
@@ -27,7 +27,6 @@ use Rattle.judging.specs.JudgedPromise.OfRow.{of_hour, of_quarter}
 use Rattle.judging.proofs.JudgedLaws.{each_figure, Passes, hour_clauses, hour_told, hour_rises, NoFailure, hours_accepted, hours_pass, Failing, hours_refused}
 use Rattle.judging.proofs.JudgedLaws.{totals_accepted, totals_agree, totals_differ, same_said, said_same_lem}
 use Rattle.judging.proofs.HourLaws.{hour_behind, set_passes, tries, OfHours, rows_own}
-use Rattle.judging.specs.declared.FigureRow.{FigureRow}
 use Rattle.judging.specs.declared.Verdict.{Verdict}
 use Rattle.judging.specs.declared.Verdict.TheVariants.{Accepted}
 

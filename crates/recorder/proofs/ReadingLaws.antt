@@ -1,35 +1,25 @@
 -- What an hour's readings give, channel by channel: that they are good or what they show, and the words that stand in a sheet.
-use Rattle.std.specs.Prelude.{ℕ, ◌+◌, ◌*◌, ◌%◌, ◌≤◌, ◌<◌, ◌≡◌, Bool, List, [], ◌∷◌, length, get_or, Float}
+use Rattle.std.specs.Prelude.{ℕ, ◌+◌, ◌*◌, ◌%◌, ◌<◌, ◌≡◌, Bool, List, [], ◌∷◌, get_or, Float}
 use Rattle.std.proofs.Math.Path.{refl, subst}
-use Rattle.std.proofs.Common.{sym, ap, ◌∙◌, true≢false, arith, lit≤}
+use Rattle.std.proofs.Common.{sym, ap, ◌∙◌, true≢false, arith}
 use Rattle.std.proofs.Math.Bool.{true, false}
-use Rattle.exact.specs.Rounding.{Records}
 use Rattle.exact.proofs.RoundingLaws.{records_half_up, records_rounded}
-use Rattle.exact.specs.Sums.{total_of}
 use Rattle.exact.specs.Faults.{◌or_else◌, unless}
 use Rattle.exact.specs.Logic.{All}
-use Rattle.layout.specs.Values.{Within, in_range}
+use Rattle.layout.specs.Values.{in_range}
 use Rattle.layout.specs.LayoutLaws.{in_range_true, true_in_range, thousands_back}
-use Rattle.formulas.specs.Hour.{set_of}
-use Rattle.formulas.specs.Formulas.{entry_of, RoundsTo}
 use Rattle.formulas.specs.declared.hour.Readings.{Readings}
-use Rattle.formulas.specs.declared.hour.Hour.{Hour}
-use Rattle.formulas.specs.declared.hour.Quantity.{Quantity}
-use Rattle.formulas.specs.declared.hour.Quantity.TheVariants.{Heat, So2 as So2Rate, Nox as NoxRate, Co2 as Co2Rate}
-use Rattle.sheet.specs.Sheet.{hour_words, value_size, word_kind, word_value, word_of, flow_kind, sheet_kind, sheet_value, sheet_hour, sheet_hour_in, recorded_readings}
-use Rattle.sheet.proofs.SheetLaws.{word_kind_lem, word_value_lem}
-use Rattle.recorder.specs.Recording.{exact_of, usable, units_in, channels, kind_of, column_of, recording_unit, reading_of, column_number, float_fault, fault_of, word_for}
-use Rattle.recorder.specs.Recording.{substituted_in, words_for, recorded_of, recorder_numbers}
-use Rattle.recorder.specs.Promise.{unrounded_reading, unrounded_of, StandIn, TakenIn, HourOf, keep_substituted, substituted_among}
-use Rattle.recorder.specs.Promise.{Reads, RecordsIn, Good, ReadingShows, absent, unusable, outside, HourRefuses, RecorderPromise}
+use Rattle.sheet.specs.Sheet.{hour_words, value_size, word_of, flow_kind, sheet_value, sheet_hour, sheet_hour_in, recorded_readings}
+use Rattle.recorder.specs.Recording.{exact_of, usable, units_in, kind_of, column_of, recording_unit, reading_of, column_number, float_fault, fault_of, word_for}
+use Rattle.recorder.specs.Recording.{words_for}
+use Rattle.recorder.specs.Promise.{unrounded_reading, StandIn}
+use Rattle.recorder.specs.Promise.{Reads, RecordsIn, Good, ReadingShows, absent, unusable, outside}
 use Rattle.recorder.proofs.ChannelLaws.{most_held}
-use Rattle.recorder.proofs.RecorderLaws.{Given, words_given, number_refused}
+use Rattle.recorder.proofs.RecorderLaws.{Given}
 use Rattle.recorder.specs.declared.RecorderReading.{RecorderReading}
 use Rattle.recorder.specs.declared.RecorderReading.TheVariants.{Measured, Substituted, Absent}
 use Rattle.recorder.specs.declared.RecorderHour.{RecorderHour}
 use Rattle.recorder.specs.declared.HourWords.{HourWords}
-use Rattle.recorder.specs.declared.Recorded.{Recorded}
-use Rattle.recorder.specs.declared.Recorded.TheVariants.{Words, Refused}
 use Rattle.recorder.specs.declared.Channel.{Channel}
 use Rattle.recorder.specs.declared.Channel.TheVariants.{So2, Nox, Co2, Flow}
 

@@ -1,19 +1,19 @@
 -- What 31 and 32 leave: a right heading, hours of the quarter that rise, no more of them than it has, values within their ranges.
-use Prim.Native.Nat.{ℕ, zero, suc, ◌+◌, ◌-◌, ◌%◌, ◌≤◌, ◌<◌}
+use Prim.Native.Nat.{ℕ, zero, suc, ◌+◌, ◌-◌, ◌≤◌, ◌<◌}
 use Rattle.std.specs.Prelude.{◌≡◌, refl, List, [], ◌∷◌, Bool, true, length}
 use native.Mathlib.Omega.{arith}
 use borrow.Author.Tests.{leb-true, ltb-true, eqb-true}
 use Rattle.exact.specs.Logic.{ranked, both, counted_each, each_counted}
-use Rattle.calendar.specs.Calendar.{most_hours, hours_in_quarter}
+use Rattle.calendar.specs.Calendar.{most_hours}
 use Rattle.calendar.specs.CalendarLaws.{hours_in_quarter_lem}
 use Rattle.layout.specs.Layout.{Held}
 use Rattle.layout.specs.Values.{Within, time_hours, flow_scfh, scfh_of}
 use Rattle.layout.specs.LayoutLaws.{within_true, scfh_back, flow_within}
 use Rattle.formulas.specs.Hour.{ReadingsWithin}
 use Rattle.stamp.specs.StampLaws.{is_quarter_lem}
-use Rattle.sheet.specs.Sheet.{hour_words, sheet_hour, recorded_readings, sheet_hour_count, shape_of, sheet_hours, sheet_hours_in}
+use Rattle.sheet.specs.Sheet.{sheet_hour, recorded_readings, sheet_hour_count, shape_of, sheet_hours, sheet_hours_in}
 use Rattle.sheet.specs.TestLaws.{Shaped}
-use Rattle.sheet.specs.SheetTests.{Heading, every, heading_holds, kinds_hold, hour_holds, hours_rise, sheet_holds, readings_hold, sheet_holds_in, readings_hold_in}
+use Rattle.sheet.specs.SheetTests.{Heading, every, heading_holds, hour_holds, hours_rise, sheet_holds, readings_hold, sheet_holds_in, readings_hold_in}
 use Rattle.sheet.proofs.SheetLaws.{sheet_hours_count}
 use Rattle.sheet.specs.declared.SheetHour.{SheetHour}
 
