@@ -58,6 +58,7 @@ fn read_report(input: &mut Stdin, report: &mut [u8]) -> Reads
 }
 
 // What it is taken for.
+#[tactic(auto, using(crate::proofs::Inputs::read_below, crate::proofs::Inputs::read_above, crate::proofs::Inputs::read_neither))]
 fn input_of(size: usize, last: isize) -> Input
     ensures { result ≡ input_of size last }
 {
