@@ -5,6 +5,7 @@ pub mod Values
 pub mod Answers
 pub mod Rows
 pub mod Pictures
+pub mod RightLines
 pub mod PictureLines
 pub mod ClauseLaws
 pub mod EndLaws
