@@ -15,6 +15,7 @@ pub enum Written {
 }
 
 // Writes the report of a sheet to the front of the buffer; a refusal changes no byte.
+#[tactic(auto, using(crate::proofs::Answer::refused_answer, crate::proofs::Answer::refused_buffer))]
 pub fn write(
     year: u64,
     quarter: u64,
