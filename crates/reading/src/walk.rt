@@ -126,6 +126,7 @@ fn walk_runs(file: &[u8], n: usize, first: usize, end: usize, start: Cursor) -> 
 const FEW: usize = 16;
 
 // Behind the last 300 line, with k of n operating hours read: the number is the refusal's where one is missing.
+#[tactic(auto, unfolding(crate::specs::Passages::end_passage))]
 fn end_operations(n: usize, k: usize, number: u64, line: usize, at: usize) -> Passage
     ensures { result ≡ end_passage n k number line at }
 {
