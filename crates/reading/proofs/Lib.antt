@@ -4,3 +4,4 @@ pub mod Walking
 pub mod Rising
 pub mod Listing
 pub mod Starting
+pub mod Last
