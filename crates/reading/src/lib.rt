@@ -30,6 +30,7 @@ pub enum Reading {
 }
 
 // The first fault of the file and its lines, or what the report says of itself.
+#[tactic(auto, using(crate::proofs::Starting::read_empty, crate::proofs::Starting::read_open))]
 pub fn read(file: &[u8]) -> Reading
     ensures { result ≡ read_of file.now }
 {
