@@ -1,5 +1,5 @@
 -- The lines of a written report are its records, in the order of their types, and it is right.
-use Rattle.std.specs.Prelude.{ℕ, suc, ◌+◌, ◌-◌, ◌≤◌, true, false, ◌⊎◌, eqb, length}
+use Rattle.std.specs.Prelude.{ℕ, suc, ◌≤◌, true, false, ◌⊎◌, eqb, length}
 use Rattle.std.proofs.Math.Path.{◌≡◌, refl, sym, ap}
 use Rattle.std.proofs.Common.{◌∙◌, inl, inr, ne_eqb}
 use mathlib.Core.List.{List, [], ◌∷◌, ◌++◌, map, append_assoc, append-nil}

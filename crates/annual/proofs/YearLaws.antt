@@ -1,9 +1,9 @@
 -- The promise holds of every year so joined. Year.antt states it.
 use Rattle.std.specs.Prelude.{ℕ, suc, ◌+◌, ◌<◌, ◌≡◌, refl, length}
-use Rattle.std.proofs.Common.{sym, ap, subst, subst₂, ◌∙◌, mul-one, mul-le-mul_left, lit<}
+use Rattle.std.proofs.Common.{sym, ap, subst, subst₂, ◌∙◌, mul-one, lit<}
 use mathlib.Core.List.{List, [], ◌∷◌}
 use native.Mathlib.Omega.{arith}
-use Rattle.exact.specs.Fraction.{Fraction, ◌⊕◌, fraction, sum_of, Near}
+use Rattle.exact.specs.Fraction.{◌⊕◌, fraction, sum_of, Near}
 use Rattle.exact.specs.Rounding.{recorded}
 use Rattle.exact.specs.Sums.{total_of}
 use Rattle.exact.proofs.SumLaws.{sum_near}

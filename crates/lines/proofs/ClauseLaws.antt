@@ -1,6 +1,6 @@
 -- A fault is the first clause that a line does not meet. Clauses.antt has the clauses.
-use Prim.Native.Nat.{ℕ, zero, suc, ◌+◌, ◌%◌, ◌≤◌}
-use Rattle.std.specs.Prelude.{◌≡◌, ◌⊎◌, List, [], ◌∷◌, ◌++◌, Bool, cond, not, eqb, leb, length, take}
+use Prim.Native.Nat.{ℕ, zero, suc, ◌%◌, ◌≤◌}
+use Rattle.std.specs.Prelude.{◌≡◌, ◌⊎◌, List, [], ◌∷◌, ◌++◌, Bool, cond, eqb, leb, length, take}
 use Rattle.std.proofs.Math.Path.{refl, ap}
 use Rattle.std.proofs.Common.{sym, subst, ◌∙◌, ⊎_elim, arith, eqb-true, eq-eqb, leb-true, le-leb, lt-ltb}
 use Rattle.std.proofs.Math.Logic.{inl, inr}
@@ -20,7 +20,7 @@ use Rattle.columns.specs.declared.Field.{Field}
 use Rattle.columns.specs.declared.Field.TheVariants.{Blank, Malformed, Number}
 use Rattle.calendar.specs.declared.QuarterHour.{QuarterHour}
 use Rattle.calendar.specs.declared.QuarterHour.TheVariants.{At, Outside}
-use Rattle.layout.specs.Layout.{record_of, type_width, type_digits, length_of, date_column, date_width, values_of}
+use Rattle.layout.specs.Layout.{record_of, type_width, type_digits, length_of, date_column, values_of}
 use Rattle.layout.specs.Values.{year_digits, quarter_digit, so2_ppm, listed_time, heat_rate, InRange, in_range, whole_steps, within}
 use Rattle.layout.specs.LayoutLaws.{in_range_true, true_in_range, within_true, true_within}
 use Rattle.layout.specs.declared.RecordType.{RecordType}

@@ -1,5 +1,5 @@
 -- The test of a line's date, by the 200 line of its rank, tells of its clause.
-use Rattle.std.specs.Prelude.{◌≡◌, ℕ, zero, suc, ◌≤◌, ◌⊎◌, List, refl, Bool, true, false, leb}
+use Rattle.std.specs.Prelude.{◌≡◌, ℕ, zero, suc, ◌≤◌, ◌⊎◌, List, refl, Bool, true, false}
 use Rattle.std.proofs.Common.{arith, inl, inr}
 use Rattle.exact.specs.Faults.{unless, unless_zero}
 use Rattle.columns.specs.Bytes.{same}

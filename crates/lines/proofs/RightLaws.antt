@@ -1,5 +1,5 @@
 -- The lines without fault are the right ones. RightLine.antt says what a right line is.
-use Prim.Native.Nat.{ℕ, zero, suc, ◌≤◌}
+use Prim.Native.Nat.{ℕ, ◌≤◌}
 use Rattle.std.specs.Prelude.{◌≡◌, ◌↔◌, ◌⊎◌, Bool, eqb, leb, ltb, take}
 use Rattle.std.proofs.Math.Path.{refl, ap}
 use Rattle.std.proofs.Common.{sym, ◌∙◌}
@@ -23,7 +23,7 @@ use Rattle.columns.specs.declared.Field.{Field}
 use Rattle.columns.specs.declared.Field.TheVariants.{Blank, Malformed, Number}
 use Rattle.calendar.specs.declared.QuarterHour.{QuarterHour}
 use Rattle.calendar.specs.declared.QuarterHour.TheVariants.{At, Outside}
-use Rattle.layout.specs.Layout.{record_of, type_width, type_digits, length_of, date_column, date_width, values_of, gas_word}
+use Rattle.layout.specs.Layout.{record_of, type_width, type_digits, length_of, date_column, values_of, gas_word}
 use Rattle.layout.specs.Values.{year_digits, quarter_digit, so2_ppm, time_hours, listed_time, heat_rate, Within, within}
 use Rattle.layout.specs.LayoutLaws.{within_true, true_within}
 use Rattle.layout.proofs.TypeLaws.{gas_type}

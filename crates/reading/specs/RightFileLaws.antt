@@ -13,11 +13,11 @@ use Rattle.layout.specs.declared.RecordType.TheVariants.{So2Concentration, NoxCo
 use Rattle.layout.specs.declared.RecordType.TheVariants.{So2Mass, NoxRate, Co2Mass}
 use Rattle.layout.specs.declared.Shape.{Shape}
 use Rattle.lines.specs.Lines.{lines, last}
-use Rattle.lines.specs.LineFaults.{type_is, facility_line, hour_line, Due, due_of, operates, operation_line}
+use Rattle.lines.specs.LineFaults.{type_is, facility_line, hour_line, Due, due_of, operation_line}
 use Rattle.lines.proofs.FaultLaws.{facility_said, hour_said_lem}
 use Rattle.lines.proofs.OperationLaws.{Said, said_operating, said_idle, operating_left}
 use Rattle.lines.specs.RightLine.{RightFacility, RightDue, RightListed}
-use Rattle.lines.proofs.RightLaws.{facility_right, right_facility, hour_right, due_says, RightTime, operation_right}
+use Rattle.lines.proofs.RightLaws.{facility_right, hour_right, due_says, RightTime, operation_right}
 use Rattle.lines.proofs.RightLaws.RightTime.{runs, rests}
 use Rattle.lines.specs.declared.Period.{Period}
 use Rattle.lines.specs.declared.FacilityLine.{FacilityLine}

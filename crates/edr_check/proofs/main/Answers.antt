@@ -1,5 +1,5 @@
 -- The report that was read lies within the buffer.
-use Rattle.std.proofs.Common.{arith, length, sym}
+use Rattle.std.proofs.Common.{arith, sym}
 use Rattle.std.proofs.lemmas.List.{length-take-le}
 use Rattle.edr_check.specs.InputLaws.{report_size}
 use Rattle.edr_check.proofs.main.Goals as goal
