@@ -1,4 +1,4 @@
--- `calendar::date_of_hour` is `date_of_hour`: each date is shown by the law `date-at`.
+-- `calendar::date_of_hour` is `date_of_hour`: each date is shown by the law `date_at_lem`.
 use native.Mathlib.Omega.{arith}
 use mathlib.Core.Path.{refl, sym}
 use Rattle.calendar.specs.MonthLaws.{month_length, Starts, starts}

@@ -1,4 +1,4 @@
--- The law `stamp-by-pairs`, with the four pairs that were read.
+-- The law `stamp_by_pairs`, with the four pairs that were read.
 use Rattle.std.proofs.Common.{◌≡◌, sym, ◌∙◌, rules, eq-eqb, ne_eqb}
 use Rattle.columns.specs.Columns.{columns}
 use Rattle.layout.specs.Layout.{date_width}
