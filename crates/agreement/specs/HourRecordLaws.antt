@@ -19,7 +19,7 @@ use Rattle.columns.proofs.WrittenLaws.{digits_length, written_length}
 use Rattle.columns.specs.Rewritten.{DigitsWritten}
 use Rattle.columns.proofs.RewrittenLaws.{digits_written}
 use Rattle.calendar.specs.Calendar.{hours_in_quarter}
-use Rattle.calendar.specs.declared.QuarterHour.TheVariants.{At}
+use Rattle.std.specs.Prelude.{Some as At}
 use Rattle.layout.specs.Layout.{record_of, length_of, stack_width, date_column, date_width, gas_start, gas_word, values_of}
 use Rattle.layout.specs.Values.{year_digits, quarter_digit, so2_ppm, so2_rate, Within}
 use Rattle.layout.specs.LayoutLaws.{date_inside, true_within}

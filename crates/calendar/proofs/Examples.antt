@@ -5,7 +5,7 @@ use mathlib.Core.List.{List, [], ◌∷◌, map}
 use mathlib.Core.Path.{◌≡◌, refl}
 use lib.Dec.{eqb}
 use Rattle.calendar.specs.declared.Date.{Date}
-use Rattle.calendar.specs.declared.QuarterHour.TheVariants.{At, Outside}
+use Rattle.std.specs.Prelude.{Some as At, None as Outside}
 use Rattle.calendar.specs.Calendar.{leap_year, days_in_month, days_in_quarter, hours_in_quarter, in_quarter}
 use Rattle.calendar.specs.Calendar.{days_before, hour_of_quarter, month_of_day, date_of_hour, quarter_hour}
 

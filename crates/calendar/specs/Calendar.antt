@@ -1,9 +1,8 @@
 -- Gregorian dates and the hours of a quarter of a year. Every definition computes. Months, days and quarters count from 1,
 -- hours of a day and hours of a quarter from 0.
-use Rattle.std.specs.Prelude.{ℕ, ◌+◌, ◌*◌, ◌-◌, ◌/◌, ◌%◌, ◌≤◌, Bool, cond, ◌&&◌, ◌||◌, not, eqb, leb, ltb}
+use Rattle.std.specs.Prelude.{ℕ, Option, ◌+◌, ◌*◌, ◌-◌, ◌/◌, ◌%◌, ◌≤◌, Bool, cond, ◌&&◌, ◌||◌, not, eqb, leb, ltb}
 use Rattle.calendar.specs.declared.Date.{Date}
-use Rattle.calendar.specs.declared.QuarterHour.{QuarterHour}
-use Rattle.calendar.specs.declared.QuarterHour.TheVariants.{At, Outside}
+use Rattle.std.specs.Prelude.{Some as At, None as Outside}
 
 unfoldable pub leap_year : ℕ → Bool
 leap_year year = (eqb (year % 4) 0 && not (eqb (year % 100) 0)) || eqb (year % 400) 0
@@ -74,6 +73,10 @@ unfoldable pub date_of_hour : ℕ → ℕ → ℕ → Date
 date_of_hour year quarter hour =
     let month = month_of_day year (first_month quarter) (hour / 24) in
     record { month = month; day = hour / 24 - days_before year (first_month quarter) month + 1; hour = hour % 24 }
+
+-- the hour of the quarter, where a date lies in it
+abbrev pub QuarterHour : Type 0
+QuarterHour = Option ℕ
 
 -- where a date lies in the quarter
 unfoldable pub quarter_hour : ℕ → ℕ → Date → QuarterHour

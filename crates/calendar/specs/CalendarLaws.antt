@@ -8,7 +8,7 @@ use native.Mathlib.Omega.{arith}
 use Rattle.std.proofs.Math.Decide.{ℕ_discrete}
 use borrow.Author.Tests.{le-leb, leb-true}
 use Rattle.calendar.specs.declared.Date.{Date}
-use Rattle.calendar.specs.declared.QuarterHour.TheVariants.{At, Outside}
+use Rattle.std.specs.Prelude.{Some as At, None as Outside}
 use Rattle.calendar.specs.Calendar.{LiesIn, TwoDigits, most_hours, IsQuarter, leap_year, days_in_month, first_month, days_in_quarter, hours_in_quarter}
 use Rattle.calendar.specs.Calendar.{in_quarter, days_before, hour_of_quarter, month_of_day, date_of_hour, quarter_hour, Between}
 use Rattle.calendar.specs.MonthLaws.{cond_between, days_in_month_lem, month_ends, Holds, month_starts, month_holds, month_of_day_lem}

@@ -15,15 +15,6 @@ pub struct Date {
     pub hour: u64,
 }
 
-// Where a date lies in a quarter.
-#[derive(Clone, Copy)]
-pub enum QuarterHour {
-    // In it, at this hour.
-    At(u64),
-    // No date, no hour of a day, or one of another quarter.
-    Outside,
-}
-
 #[tactic(auto, unfolding(crate::specs::Calendar::leap_year))]
 pub fn is_leap(year: u64) -> bool
     ensures { result ≡ leap_year year }
@@ -79,29 +70,29 @@ fn days_before(year: u64, first: u64, month: u64) -> u64
     days + days_in_month(year, first + 1)
 }
 
-// Where a date lies in the quarter; its month, day and hour may be any numbers.
-pub fn hour_of_quarter(year: u64, quarter: u64, date: Date) -> QuarterHour
+// The hour of the quarter at which a date lies, if it is one of it; its month, day and hour may be any numbers.
+pub fn hour_of_quarter(year: u64, quarter: u64, date: Date) -> Option<u64>
     requires { IsQuarter quarter }
     ensures { result ≡ quarter_hour year quarter date }
 {
     let first = first_month(quarter);
     let month = date.month;
     if month < first {
-        return QuarterHour::Outside;
+        return None;
     }
     if first + 2 < month {
-        return QuarterHour::Outside;
+        return None;
     }
     if date.day < 1 {
-        return QuarterHour::Outside;
+        return None;
     }
     if days_in_month(year, month) < date.day {
-        return QuarterHour::Outside;
+        return None;
     }
     if 23 < date.hour {
-        return QuarterHour::Outside;
+        return None;
     }
-    QuarterHour::At(24 * (days_before(year, first, month) + (date.day - 1)) + date.hour)
+    Some(24 * (days_before(year, first, month) + (date.day - 1)) + date.hour)
 }
 
 // The date of an hour of the quarter.

@@ -4,7 +4,7 @@ use mathlib.Core.Path.{◌≡◌, refl, sym, ap, ◌∙◌}
 use mathlib.Core.List.{List}
 use mathlib.Core.Bool.{Bool, true, not}
 use Rattle.columns.specs.Bytes.{is_blank, all}
-use Rattle.calendar.specs.declared.QuarterHour.{QuarterHour}
+use Rattle.calendar.specs.Calendar.{QuarterHour}
 use lib.ListN.{length, take}
 use Rattle.layout.specs.Layout.{length_of}
 use Rattle.layout.specs.Values.{year_digits, quarter_digit, within}

@@ -18,8 +18,8 @@ use Rattle.columns.proofs.EachLaws.{printable_says, says_printable, named_told}
 use Rattle.columns.specs.Number.{digits_only, number_of}
 use Rattle.columns.specs.declared.Field.{Field}
 use Rattle.columns.specs.declared.Field.TheVariants.{Blank, Malformed, Number}
-use Rattle.calendar.specs.declared.QuarterHour.{QuarterHour}
-use Rattle.calendar.specs.declared.QuarterHour.TheVariants.{At, Outside}
+use Rattle.calendar.specs.Calendar.{QuarterHour}
+use Rattle.std.specs.Prelude.{Some as At, None as Outside}
 use Rattle.layout.specs.Layout.{record_of, type_width, type_digits, length_of, date_column, values_of}
 use Rattle.layout.specs.Values.{year_digits, quarter_digit, so2_ppm, listed_time, heat_rate, InRange, in_range, whole_steps, within}
 use Rattle.layout.specs.LayoutLaws.{in_range_true, true_in_range, within_true, true_within}

@@ -10,8 +10,8 @@ use Rattle.columns.specs.Number.{is_empty, number_of}
 use Rattle.columns.specs.declared.Field.{Field}
 use Rattle.columns.specs.declared.Field.TheVariants.{Blank, Malformed, Number}
 use Rattle.calendar.specs.Calendar.{most_hours, IsQuarter, hours_in_quarter}
-use Rattle.calendar.specs.declared.QuarterHour.{QuarterHour}
-use Rattle.calendar.specs.declared.QuarterHour.TheVariants.{At, Outside}
+use Rattle.calendar.specs.Calendar.{QuarterHour}
+use Rattle.std.specs.Prelude.{Some as At, None as Outside}
 use Rattle.layout.specs.Layout.{record_of, code_of, length_of, date_column, type_width, type_digits, values_of}
 use Rattle.layout.specs.Values.{year_digits, quarter_digit, so2_ppm, no_value, Within, in_range, whole_steps, within}
 use Rattle.layout.specs.LayoutLaws.{tests_within, within_true, true_in_range}

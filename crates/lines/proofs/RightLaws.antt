@@ -21,8 +21,8 @@ use Rattle.columns.proofs.FormatLaws.{digits_only_lem, in_format}
 use Rattle.columns.specs.Written.{digits_of}
 use Rattle.columns.specs.declared.Field.{Field}
 use Rattle.columns.specs.declared.Field.TheVariants.{Blank, Malformed, Number}
-use Rattle.calendar.specs.declared.QuarterHour.{QuarterHour}
-use Rattle.calendar.specs.declared.QuarterHour.TheVariants.{At, Outside}
+use Rattle.calendar.specs.Calendar.{QuarterHour}
+use Rattle.std.specs.Prelude.{Some as At, None as Outside}
 use Rattle.layout.specs.Layout.{record_of, type_width, type_digits, length_of, date_column, values_of, gas_word}
 use Rattle.layout.specs.Values.{year_digits, quarter_digit, so2_ppm, time_hours, listed_time, heat_rate, Within, within}
 use Rattle.layout.specs.LayoutLaws.{within_true, true_within}

@@ -8,8 +8,8 @@ use Rattle.columns.specs.Columns.{columns}
 use Rattle.columns.specs.Number.{digits_only, field_of, is_empty, number_of}
 use Rattle.columns.specs.declared.Field.{Field}
 use Rattle.columns.specs.declared.Field.TheVariants.{Blank, Malformed, Number}
-use Rattle.calendar.specs.declared.QuarterHour.{QuarterHour}
-use Rattle.calendar.specs.declared.QuarterHour.TheVariants.{At, Outside}
+use Rattle.calendar.specs.Calendar.{QuarterHour}
+use Rattle.std.specs.Prelude.{Some as At, None as Outside}
 use Rattle.layout.specs.Layout.{type_width, type_digits, stack_start, stack_width, date_width, length_of, record_of, date_column, values_of, gas_start, gas_word}
 use Rattle.layout.specs.Values.{year_digits, quarter_digit, so2_ppm, listed_time, heat_rate, in_range, whole_steps, within}
 use Rattle.stamp.specs.Stamp.{stamp_hour}

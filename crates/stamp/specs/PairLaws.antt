@@ -17,8 +17,8 @@ use Rattle.layout.specs.Layout.{date_width}
 use Rattle.calendar.specs.Calendar.{IsQuarter, quarter_hour, LiesIn}
 use Rattle.calendar.specs.MonthLaws.{days_in_month_lem}
 use Rattle.calendar.specs.CalendarLaws.{outside}
-use Rattle.calendar.specs.declared.QuarterHour.{QuarterHour}
-use Rattle.calendar.specs.declared.QuarterHour.TheVariants.{Outside}
+use Rattle.calendar.specs.Calendar.{QuarterHour}
+use Rattle.std.specs.Prelude.{None as Outside}
 use Rattle.stamp.specs.Stamp.{number_hour, field_hour, stamp_hour}
 use Rattle.stamp.specs.Pairs.{pair_width, pair_field}
 

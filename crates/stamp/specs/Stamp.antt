@@ -7,8 +7,8 @@ use Rattle.columns.specs.declared.Field.TheVariants.{Blank, Malformed, Number}
 use Rattle.layout.specs.Layout.{date_width}
 use Rattle.calendar.specs.Calendar.{quarter_hour, date_of_hour}
 use Rattle.calendar.specs.declared.Date.{Date}
-use Rattle.calendar.specs.declared.QuarterHour.{QuarterHour}
-use Rattle.calendar.specs.declared.QuarterHour.TheVariants.{Outside}
+use Rattle.calendar.specs.Calendar.{QuarterHour}
+use Rattle.std.specs.Prelude.{None as Outside}
 
 abbrev pub number_date : ℕ → Date
 number_date v = record { month = v / 10_000 % 100; day = v / 100 % 100; hour = v % 100 }

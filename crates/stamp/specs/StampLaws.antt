@@ -15,7 +15,7 @@ use Rattle.layout.specs.Values.{quarter_digit, Within}
 use Rattle.calendar.specs.Calendar.{most_hours, IsQuarter, hours_in_quarter, hour_of_quarter, quarter_hour, date_of_hour, LiesIn, TwoDigits}
 use Rattle.calendar.specs.CalendarLaws.{date_of_hour_two_digits, hours_in_quarter_lem, hour_at_lem, at_hour, inside}
 use Rattle.calendar.specs.declared.Date.{Date}
-use Rattle.calendar.specs.declared.QuarterHour.TheVariants.{At, Outside}
+use Rattle.std.specs.Prelude.{Some as At, None as Outside}
 use Rattle.stamp.specs.Stamp.{number_date, number_hour, field_hour, stamp_hour, date_number, stamp_number, stamp_of}
 
 -- a number in the range of line 100's quarter is a quarter

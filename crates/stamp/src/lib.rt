@@ -9,7 +9,7 @@ ghost use Rattle.layout.specs.Layout.{date_width};
 ghost use Rattle.stamp.specs.Stamp.{stamp_hour, date_number, stamp_number};
 ghost use Rattle.stamp.specs.Pairs.{pair_width, pair_field};
 
-use calendar::{Date, QuarterHour};
+use calendar::Date;
 
 // YY, MM, DD and HH have so many columns each.
 const PAIR_WIDTH: usize = 2;
@@ -43,7 +43,7 @@ fn two_digits(line: &[u8], start: usize) -> u64
 }
 
 // The hour of the quarter on a line, with its first column.
-pub fn read_stamp(line: &[u8], start: usize, year: u64, quarter: u64) -> QuarterHour
+pub fn read_stamp(line: &[u8], start: usize, year: u64, quarter: u64) -> Option<u64>
     requires inside { Inside start date_width line.now }
     requires quarter { IsQuarter quarter }
     ensures { result ≡ stamp_hour year quarter (columns start date_width line.now) }
@@ -58,7 +58,7 @@ pub fn read_stamp(line: &[u8], start: usize, year: u64, quarter: u64) -> Quarter
         hour: two_digits(line, hour_start),
     };
     if year_digits != year % 100 {
-        return QuarterHour::Outside;
+        return None;
     }
     calendar::hour_of_quarter(year, quarter, date)
 }

@@ -2,7 +2,7 @@
 use native.Mathlib.Omega.{arith}
 use mathlib.Core.Path.{sym, ap, ◌∙◌}
 use Prim.Native.Nat.{ℕ, ◌+◌, ◌≤◌}
-use Rattle.calendar.specs.declared.QuarterHour.TheVariants.{At}
+use Rattle.std.specs.Prelude.{Some as At}
 use Rattle.calendar.specs.Calendar.{days_before, hour_of_quarter}
 use Rattle.calendar.specs.MonthLaws.{month_length, days_before_lem}
 use Rattle.calendar.specs.CalendarLaws.{inside, outside}
