@@ -35,8 +35,8 @@ use Rattle.lines.specs.FaultLaws.{DueRight}
 use Rattle.lines.proofs.FaultLaws.{so2_right}
 use Rattle.lines.proofs.OperationLaws.{operation_said, due_operates, due_operation}
 use Rattle.lines.specs.declared.Period.{Period}
-use Rattle.lines.specs.declared.FacilityLine.TheVariants.{Of}
-use Rattle.lines.specs.declared.HourLine.TheVariants.{At as OfHour}
+use Rattle.std.specs.Prelude.{Ok as Of}
+use Rattle.std.specs.Prelude.{Ok as OfHour}
 use Rattle.lines.specs.declared.operation.OperationLine.TheVariants.{Operating}
 use Rattle.sheet.specs.SheetTests.{Heading}
 use Rattle.writer.specs.Recorded.{ReportHour}

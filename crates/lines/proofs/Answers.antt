@@ -18,13 +18,14 @@ use Rattle.lines.specs.Beginning.{stamped_line, operating_at}
 use Rattle.lines.proofs.FaultLaws.{said_hour, said_fault, dated_shape}
 use Rattle.lines.specs.Lines.{first_line}
 use Rattle.lines.proofs.Shapes.{line_known, line_length_lem}
-use Rattle.lines.specs.declared.HourLine.{HourLine}
+use Rattle.lines.specs.LineFaults.{HourLine}
 use Rattle.lines.specs.declared.Period.{Period}
-use Rattle.lines.specs.declared.FacilityLine.{FacilityLine}
-use Rattle.lines.specs.declared.FacilityLine.TheVariants.{Of, Faulty as FaultyFacility}
-use Rattle.lines.specs.declared.HourLine.TheVariants.{At as OfHour, Faulty as FaultyHour}
+use Rattle.lines.specs.LineFaults.{FacilityLine}
+use Rattle.std.specs.Prelude.{Ok as Of, Err as FaultyFacility}
+use Rattle.std.specs.Prelude.{Ok as OfHour, Err as FaultyHour}
 use Rattle.lines.specs.declared.operation.OperationLine.{OperationLine}
-use Rattle.lines.specs.declared.operation.OperationLine.TheVariants.{Operating, Faulty as FaultyOperation}
+use Rattle.std.specs.Prelude.{Err as FaultyOperation}
+use Rattle.lines.specs.declared.operation.OperationLine.TheVariants.{Operating}
 
 module _ (line : List ℕ) where
   says : ℕ → FacilityLine

@@ -26,8 +26,8 @@ use Rattle.lines.specs.LineFaults.{facility_fault, facility_line, rising_fault, 
 use Rattle.lines.specs.LineFaults.{so2_fault, Due, date_fault, gas_fault, due_fault}
 use Rattle.lines.specs.FaultLaws.{ValuesFormed, ValuesRight, DueRight}
 use Rattle.lines.specs.declared.Period.{Period}
-use Rattle.lines.specs.declared.FacilityLine.TheVariants.{Of, Faulty as FaultyFacility}
-use Rattle.lines.specs.declared.HourLine.TheVariants.{At as OfHour, Faulty as FaultyHour}
+use Rattle.std.specs.Prelude.{Ok as Of, Err as FaultyFacility}
+use Rattle.std.specs.Prelude.{Ok as OfHour, Err as FaultyHour}
 
 module _ (t : RecordType) (line : List ℕ) (e : shape_fault t line ≡ 0) where
   pub shape_type : type_is t line ≡ true

@@ -3,10 +3,9 @@ use Rattle.std.specs.Prelude.{ℕ, List, Bool, ◌&&◌, eqb, take, get_or}
 use Rattle.columns.specs.Bytes.{is_printable, all}
 use Rattle.layout.specs.declared.RecordType.{RecordType}
 use Rattle.layout.specs.declared.RecordType.TheVariants.{Operation}
-use Rattle.lines.specs.LineFaults.{rising_fault, hour_on, hour_in, hour_said, said_of}
-use Rattle.lines.specs.declared.HourLine.{HourLine}
+use Rattle.lines.specs.LineFaults.{rising_fault, hour_on, hour_in, hour_said, said_of, OperationSaid}
+use Rattle.lines.specs.LineFaults.{HourLine}
 use Rattle.lines.specs.declared.Period.{Period}
-use Rattle.lines.specs.declared.operation.OperationLine.{OperationLine}
 use Rattle.lines.specs.declared.operation.OperationLine.TheVariants.{Operating}
 
 -- so many printable bytes and byte 10
@@ -18,5 +17,5 @@ unfoldable pub stamped_line : Period → RecordType → (from : ℕ) → List �
 stamped_line period t from line = hour_said (rising_fault from (hour_on period t line)) (hour_in period t line)
 
 -- the same of the 300 line of an operating hour
-unfoldable pub operating_at : Period → (from : ℕ) → List ℕ → OperationLine
+unfoldable pub operating_at : Period → (from : ℕ) → List ℕ → OperationSaid
 operating_at period from line = said_of (rising_fault from (hour_on period Operation line)) (Operating (hour_in period Operation line))

@@ -1,6 +1,6 @@
 -- The faults of one line, in the order in which they are looked for, and what lines 100, 200 and 300 say. A fault is its number in the
 -- paper's table; 0 is none.
-use Rattle.std.specs.Prelude.{ℕ, zero, suc, List, [], ◌∷◌, Bool, true, false, cond, not, eqb, leb, ltb, length, take}
+use Rattle.std.specs.Prelude.{ℕ, Result, Ok, Err, Some, None, zero, suc, List, [], ◌∷◌, Bool, true, false, cond, not, eqb, leb, ltb, length, take}
 use Rattle.exact.specs.Logic.{agree}
 use Rattle.exact.specs.Faults.{◌or_else◌, unless}
 use Rattle.columns.specs.Bytes.{is_blank, is_printable, all, same}
@@ -9,7 +9,6 @@ use Rattle.columns.specs.Number.{digits_only, field_of, is_empty, number_of}
 use Rattle.columns.specs.declared.Field.{Field}
 use Rattle.columns.specs.declared.Field.TheVariants.{Blank, Malformed, Number}
 use Rattle.calendar.specs.Calendar.{QuarterHour}
-use Rattle.std.specs.Prelude.{Some as At, None as Outside}
 use Rattle.layout.specs.Layout.{type_width, type_digits, stack_start, stack_width, date_width, length_of, record_of, date_column, values_of, gas_start, gas_word}
 use Rattle.layout.specs.Values.{year_digits, quarter_digit, so2_ppm, listed_time, heat_rate, in_range, whole_steps, within}
 use Rattle.stamp.specs.Stamp.{stamp_hour}
@@ -17,12 +16,8 @@ use Rattle.layout.specs.declared.RecordType.{RecordType}
 use Rattle.layout.specs.declared.RecordType.TheVariants.{Facility, So2Concentration, Operation}
 use Rattle.layout.specs.declared.values.Value.{Value}
 use Rattle.lines.specs.declared.Period.{Period}
-use Rattle.lines.specs.declared.FacilityLine.{FacilityLine}
-use Rattle.lines.specs.declared.FacilityLine.TheVariants.{Of, Faulty as FaultyFacility}
-use Rattle.lines.specs.declared.HourLine.{HourLine}
-use Rattle.lines.specs.declared.HourLine.TheVariants.{At as OfHour, Faulty as FaultyHour}
 use Rattle.lines.specs.declared.operation.OperationLine.{OperationLine}
-use Rattle.lines.specs.declared.operation.OperationLine.TheVariants.{Operating, Idle, Faulty as FaultyOperation}
+use Rattle.lines.specs.declared.operation.OperationLine.TheVariants.{Operating, Idle}
 
 -- 2, 3 and 4: the type, the length, the bytes
 
@@ -74,14 +69,18 @@ facility_fault line =
     or_else unless (within year_digits (digits_in year_digits line)) 6
     or_else unless (within quarter_digit (digits_in quarter_digit line)) 6
 
+-- what line 100 says, or the number of its fault
+abbrev pub FacilityLine : Type 0
+FacilityLine = Result Period ℕ
+
 unfoldable pub facility_line : List ℕ → FacilityLine
-facility_line line = elim (facility_fault line) [ zero ↦ Of (period_on line) | suc c ↦ FaultyFacility (suc c) ]
+facility_line line = elim (facility_fault line) [ zero ↦ Ok (period_on line) | suc c ↦ Err (suc c) ]
 
 -- 6: date and hour of a 200 or 300 line, of which the hour of the quarter is at least `from`
 
 unfoldable pub rising_fault : ℕ → QuarterHour → ℕ
-rising_fault from Outside = 6
-rising_fault from (At hour) = unless (leb from hour) 6
+rising_fault from None = 6
+rising_fault from (Some hour) = unless (leb from hour) 6
 
 abbrev pub date_on : RecordType → List ℕ → List ℕ
 date_on t line = columns (date_column t) date_width line
@@ -94,16 +93,20 @@ dated_fault facility period t from line = common_fault facility t line or_else r
 
 -- its hour of the quarter, 0 where there is none
 unfoldable pub hour_number : QuarterHour → ℕ
-hour_number Outside = 0
-hour_number (At hour) = hour
+hour_number None = 0
+hour_number (Some hour) = hour
 
 abbrev pub hour_in : Period → RecordType → List ℕ → ℕ
 hour_in period t line = hour_number (hour_on period t line)
 
+-- the hour of the quarter that a line is for, or the number of its fault
+abbrev pub HourLine : Type 0
+HourLine = Result ℕ ℕ
+
 -- what a line with this fault says of its hour
 abbrev pub hour_said : (fault hour : ℕ) → HourLine
-hour_said zero hour = OfHour hour
-hour_said (suc c) hour = FaultyHour (suc c)
+hour_said zero hour = Ok hour
+hour_said (suc c) hour = Err (suc c)
 
 unfoldable pub dated_line : List ℕ → Period → RecordType → ℕ → List ℕ → HourLine
 dated_line facility period t from line = hour_said (dated_fault facility period t from line) (hour_in period t line)
@@ -178,13 +181,17 @@ timed_fault date line =
 unfoldable pub operation_fault : List ℕ → Period → ℕ → List ℕ → List ℕ → ℕ
 operation_fault facility period from date line = dated_fault facility period Operation from line or_else timed_fault date line
 
--- what it says with this fault
-unfoldable pub said_of : ℕ → OperationLine → OperationLine
-said_of zero hour = hour
-said_of (suc c) hour = FaultyOperation (suc c)
+-- the hour of a 300 line, or the number of its fault
+abbrev pub OperationSaid : Type 0
+OperationSaid = Result OperationLine ℕ
 
-abbrev pub operation_of : ℕ → ℕ → List ℕ → OperationLine
+-- what it says with this fault
+unfoldable pub said_of : ℕ → OperationLine → OperationSaid
+said_of zero hour = Ok hour
+said_of (suc c) hour = Err (suc c)
+
+abbrev pub operation_of : ℕ → ℕ → List ℕ → OperationSaid
 operation_of fault hour line = said_of fault (cond (operates line) (Operating hour) (Idle hour))
 
-unfoldable pub operation_line : List ℕ → Period → ℕ → List ℕ → List ℕ → OperationLine
+unfoldable pub operation_line : List ℕ → Period → ℕ → List ℕ → List ℕ → OperationSaid
 operation_line facility period from date line = operation_of (operation_fault facility period from date line) (hour_in period Operation line) line

@@ -1,42 +1,41 @@
-// The faults of a line that has its type's shape. 0 is none.
+// What a line is tried for whose shape is its type's.
 ghost use Rattle.std.specs.Prelude.{◌≡◌, ◌+◌, ◌-◌, ◌≤◌, length};
 ghost use Rattle.columns.specs.Columns.{Inside};
 ghost use Rattle.layout.specs.Layout.{length_of, values_of, date_width, ValueInside};
 ghost use Rattle.lines.specs.Lines.{first_line};
+ghost use Rattle.refusals.specs.Refusals.{fault_number, fault_in};
 ghost use Rattle.lines.specs.LineFaults.{stack_fault, common_fault, digits_in, field_fault, field_in, values_fault, date_on, date_fault};
 
 use crate::shape;
 use columns::Field;
 use layout::values::Value;
 use layout::{RecordType, values};
+use refusals::Fault;
 
 // The stack name, in bytes of a line.
 pub const STACK_FROM: usize = layout::STACK_START - 1;
 
 pub const STACK_TO: usize = STACK_FROM + layout::STACK_WIDTH;
 
-// 5, in a line that is long enough.
-fn stack_fault(facility: &[u8], line: &[u8]) -> u64
+// The stack name, in a line that is long enough.
+fn try_stack(facility: &[u8], line: &[u8]) -> Result<(), Fault>
     requires { (length_of RecordType.Facility ≤ length facility.now) × (length_of RecordType.Facility ≤ length line.now) }
-    ensures { result ≡ stack_fault facility.now line.now }
+    ensures { fault_in fault_number result ≡ stack_fault facility.now line.now }
 {
     if columns::same_bytes(&line[STACK_FROM..STACK_TO], &facility[STACK_FROM..STACK_TO]) {
-        return 0;
+        return Ok(());
     }
-    5
+    Err(Fault::Stack)
 }
 
-// 2 to 5: what every line behind line 100 is tried for first.
-pub fn common_fault(facility: &[u8], rest: &[u8], t: RecordType) -> u64
+// What every line behind line 100 is tried for first.
+pub fn try_common(facility: &[u8], rest: &[u8], t: RecordType) -> Result<(), Fault>
     requires { length_of RecordType.Facility ≤ length facility.now }
-    ensures { result ≡ common_fault facility.now t (first_line rest.now) }
+    ensures { fault_in fault_number result ≡ common_fault facility.now t (first_line rest.now) }
 {
-    let fault = shape::shape_fault(rest, t);
-    if fault != 0 {
-        return fault;
-    }
+    shape::try_shape(rest, t)?;
     let long = layout::line_length(t);
-    stack_fault(facility, &rest[..long])
+    try_stack(facility, &rest[..long])
 }
 
 // The number in columns that are digits only; 0 where they are not.
@@ -47,69 +46,62 @@ pub fn digits_in(line: &[u8], v: Value) -> u64
     columns::number_of(columns::read_digits(line, v.start, v.width))
 }
 
-// 8, 9 and 43.
-pub fn field_fault(v: Value, field: Field) -> u64
+// A value's format, its range and its step.
+pub fn try_field(v: Value, field: Field) -> Result<(), Fault>
     requires { 1 ≤ v.step }
-    ensures { result ≡ field_fault v field }
+    ensures { fault_in fault_number result ≡ field_fault v field }
 {
     match field {
         Field::Number(k) => {
             if !values::in_range(v, k) {
-                return 9;
+                return Err(Fault::Range);
             }
             if !values::whole_steps(v, k) {
-                return 43;
+                return Err(Fault::Thousands);
             }
-            0
+            Ok(())
         }
-        Field::Malformed => 8,
-        Field::Blank => 8,
+        Field::Malformed | Field::Blank => Err(Fault::Format),
     }
 }
 
-pub fn value_fault(line: &[u8], t: RecordType, v: Value) -> u64
+pub fn try_value(line: &[u8], t: RecordType, v: Value) -> Result<(), Fault>
     requires { (length line.now ≡ length_of t) × ValueInside t v }
-    ensures { result ≡ field_fault v (field_in v line.now) }
+    ensures { fault_in fault_number result ≡ field_fault v (field_in v line.now) }
 {
-    field_fault(v, columns::read_number(line, v.start, v.width, v.decimals))
+    try_field(v, columns::read_number(line, v.start, v.width, v.decimals))
 }
 
-// The first fault of a record's values, left to right.
-pub fn values_fault(line: &[u8], t: RecordType) -> u64
+// A record's values, left to right.
+pub fn try_values(line: &[u8], t: RecordType) -> Result<(), Fault>
     requires { length line.now ≡ length_of t }
-    ensures { result ≡ values_fault (values_of t) line.now }
+    ensures { fault_in fault_number result ≡ values_fault (values_of t) line.now }
 {
-    let count = layout::value_count(t);
-    let mut i = 0;
-    while i < count {
-        let fault = value_fault(line, t, layout::value_at(t, i));
-        if fault != 0 {
-            return fault;
-        }
-        i += 1;
+    for i in 0..layout::value_count(t) {
+        try_value(line, t, layout::value_at(t, i))?;
     }
-    0
+    Ok(())
 }
 
-// 7: a date and hour that must be `date`, from its column on.
-pub fn date_fault(line: &[u8], date: &[u8], column: usize) -> u64
+// A date and hour that must be `date`, from its column on.
+pub fn try_date(line: &[u8], date: &[u8], column: usize) -> Result<(), Fault>
     requires { (1 ≤ column) × (column - 1 + date_width ≤ length line.now) }
-    ensures { result ≡ date_fault column date.now line.now }
+    ensures { fault_in fault_number result ≡ date_fault column date.now line.now }
 {
     let from = column - 1;
     if columns::same_bytes(&line[from..from + layout::DATE_WIDTH], date) {
-        return 0;
+        return Ok(());
     }
-    7
+    Err(Fault::Date)
 }
 
-// 7: a date and hour that must be those of the 200 line `hour`; a type without one has column 0.
-pub fn ranked_date_fault(line: &[u8], hour: &[u8], column: usize) -> u64
+// A date and hour that must be those of the 200 line `hour`; a type without one has column 0.
+pub fn try_ranked_date(line: &[u8], hour: &[u8], column: usize) -> Result<(), Fault>
     requires { (column - 1 + date_width ≤ length line.now) × (1 ≤ column → length hour.now ≡ length_of RecordType.So2Concentration) }
-    ensures { result ≡ date_fault column (date_on RecordType.So2Concentration hour.now) line.now }
+    ensures { fault_in fault_number result ≡ date_fault column (date_on RecordType.So2Concentration hour.now) line.now }
 {
     if column == 0 {
-        return 0;
+        return Ok(());
     }
-    date_fault(line, &hour[layout::HOUR_FROM..layout::HOUR_TO], column)
+    try_date(line, &hour[layout::HOUR_FROM..layout::HOUR_TO], column)
 }

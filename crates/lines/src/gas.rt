@@ -3,10 +3,12 @@ ghost use Rattle.std.specs.Prelude.{◌≡◌, true, ◌≤◌, length};
 ghost use Rattle.layout.specs.Layout.{length_of};
 ghost use Rattle.layout.specs.Values.{so2_ppm};
 ghost use Rattle.lines.specs.LineFaults.{field_in, so2_fault, has_gas, so2_blank, gas_fault};
+ghost use Rattle.refusals.specs.Refusals.{fault_number, fault_in};
 
 use crate::faults;
 use columns::Field;
 use layout::{RecordType, values};
+use refusals::Fault;
 
 // Whether a 310 line has GAS.
 pub fn has_gas(line: &[u8]) -> bool
@@ -25,30 +27,29 @@ fn so2_blank(hour: &[u8]) -> bool
     columns::all_blank(&hour[from..from + values::SO2_PPM.width])
 }
 
-// 49: the two go together, on lines of a type that may have GAS.
-pub fn gas_fault(line: &[u8], hour: &[u8], gas: bool) -> u64
+// The two go together, on lines of a type that may have GAS.
+pub fn try_gas(line: &[u8], hour: &[u8], gas: bool) -> Result<(), Fault>
     requires { gas ≡ true → (length_of RecordType.So2Mass ≤ length line.now) × (length hour.now ≡ length_of RecordType.So2Concentration) }
-    ensures { result ≡ gas_fault gas hour.now line.now }
+    ensures { fault_in fault_number result ≡ gas_fault gas hour.now line.now }
 {
     if !gas {
-        return 0;
+        return Ok(());
     }
     if has_gas(line) == so2_blank(hour) {
-        return 0;
+        return Ok(());
     }
-    49
+    Err(Fault::Gas)
 }
 
-// 8 and 9: the value of a 200 line, which may be blank there.
-pub fn so2_fault(line: &[u8]) -> u64
+// The value of a 200 line, which may be blank there.
+pub fn try_so2(line: &[u8]) -> Result<(), Fault>
     requires { length line.now ≡ length_of RecordType.So2Concentration }
-    ensures { result ≡ so2_fault (field_in so2_ppm line.now) }
+    ensures { fault_in fault_number result ≡ so2_fault (field_in so2_ppm line.now) }
 {
     let v = values::SO2_PPM;
     let so2 = columns::read_number(line, v.start, v.width, v.decimals);
     match so2 {
-        Field::Number(_) => faults::field_fault(v, so2),
-        Field::Malformed => 8,
-        Field::Blank => 0,
+        Field::Blank => Ok(()),
+        _ => faults::try_field(v, so2),
     }
 }

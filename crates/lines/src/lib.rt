@@ -14,9 +14,10 @@ ghost use Rattle.lines.specs.Lines.{first_line};
 ghost use Rattle.lines.specs.Beginning.{stamped_line};
 ghost use Rattle.lines.specs.LineFaults.{shape_fault, facility_line, dated_line, hour_line, due_of, due_fault};
 ghost use Rattle.lines.specs.Pictured.{Known};
+ghost use Rattle.refusals.specs.Refusals.{fault_number, fault_in, told};
 
-use calendar::QuarterHour;
 use layout::{RecordType, Row, values};
+use refusals::Fault;
 
 // The year and the quarter that a report is of.
 #[derive(Clone, Copy)]
@@ -25,47 +26,30 @@ pub struct Period {
     pub quarter: u64,
 }
 
-// What line 100 says, or the number of its fault.
-#[derive(Clone, Copy)]
-pub enum FacilityLine {
-    Of(Period),
-    Faulty(u64),
-}
-
-// The hour of the quarter that a line is for, or the number of its fault.
-#[derive(Clone, Copy)]
-pub enum HourLine {
-    At(u64),
-    Faulty(u64),
-}
-
 // Line 100.
-pub fn facility_line(rest: &[u8]) -> FacilityLine
-    ensures { result ≡ facility_line (first_line rest.now) }
+pub fn facility_line(rest: &[u8]) -> Result<Period, Fault>
+    ensures { told fault_number result ≡ facility_line (first_line rest.now) }
 {
-    let fault = shape::shape_fault(rest, RecordType::Facility);
-    if fault != 0 {
-        return FacilityLine::Faulty(fault);
-    }
+    shape::try_shape(rest, RecordType::Facility)?;
     let line = &rest[..layout::FACILITY_LENGTH];
     if columns::all_blank(&line[faults::STACK_FROM..faults::STACK_TO]) {
-        return FacilityLine::Faulty(5);
+        return Err(Fault::Stack);
     }
     let year = faults::digits_in(line, values::YEAR);
     if !values::within(values::YEAR, year) {
-        return FacilityLine::Faulty(6);
+        return Err(Fault::Period);
     }
     let quarter = faults::digits_in(line, values::QUARTER);
     if !values::within(values::QUARTER, quarter) {
-        return FacilityLine::Faulty(6);
+        return Err(Fault::Period);
     }
-    FacilityLine::Of(Period { year, quarter })
+    Ok(Period { year, quarter })
 }
 
-// 6: the hour of the quarter of a line that has no fault so far; it must be at least `from`.
-fn stamped_line(rest: &[u8], t: RecordType, period: Period, from: u64) -> HourLine
+// The hour of the quarter of a line that has no fault so far; it must be at least `from`.
+fn stamped_line(rest: &[u8], t: RecordType, period: Period, from: u64) -> Result<u64, Fault>
     requires { (shape_fault t (first_line rest.now) ≡ 0) × IsQuarter period.quarter × (1 ≤ date_column t) }
-    ensures { result ≡ stamped_line period t from (first_line rest.now) }
+    ensures { told fault_number result ≡ stamped_line period t from (first_line rest.now) }
 {
     let hour = stamp::read_stamp(
         &rest[..layout::line_length(t)],
@@ -74,83 +58,69 @@ fn stamped_line(rest: &[u8], t: RecordType, period: Period, from: u64) -> HourLi
         period.quarter,
     );
     match hour {
-        QuarterHour::At(at) => {
+        Some(at) => {
             if at < from {
-                return HourLine::Faulty(6);
+                return Err(Fault::Period);
             }
-            HourLine::At(at)
+            Ok(at)
         }
-        QuarterHour::Outside => HourLine::Faulty(6),
+        None => Err(Fault::Period),
     }
 }
 
-// 2 to 6: a line of a type with a date, whose hour of the quarter must be at least `from`.
-fn dated_line(facility: &[u8], rest: &[u8], t: RecordType, period: Period, from: u64) -> HourLine
+// A line of a type with a date, whose hour of the quarter must be at least `from`.
+fn dated_line(
+    facility: &[u8],
+    rest: &[u8],
+    t: RecordType,
+    period: Period,
+    from: u64,
+) -> Result<u64, Fault>
     requires { (length_of RecordType.Facility ≤ length facility.now) × IsQuarter period.quarter × (1 ≤ date_column t) }
-    ensures { result ≡ dated_line facility.now period t from (first_line rest.now) }
+    ensures { told fault_number result ≡ dated_line facility.now period t from (first_line rest.now) }
 {
-    let common = faults::common_fault(facility, rest, t);
-    if common != 0 {
-        return HourLine::Faulty(common);
-    }
+    faults::try_common(facility, rest, t)?;
     stamped_line(rest, t, period, from)
 }
 
 // A 200 line.
-pub fn hour_line(facility: &[u8], rest: &[u8], period: Period, from: u64) -> HourLine
+pub fn hour_line(facility: &[u8], rest: &[u8], period: Period, from: u64) -> Result<u64, Fault>
     requires { (length_of RecordType.Facility ≤ length facility.now) × IsQuarter period.quarter }
-    ensures { result ≡ hour_line facility.now period from (first_line rest.now) }
+    ensures { told fault_number result ≡ hour_line facility.now period from (first_line rest.now) }
 {
-    let dated = dated_line(facility, rest, RecordType::So2Concentration, period, from);
-    match dated {
-        HourLine::At(hour) => {
-            let fault = gas::so2_fault(&rest[..layout::SO2_LENGTH]);
-            if fault != 0 {
-                return HourLine::Faulty(fault);
-            }
-            HourLine::At(hour)
-        }
-        HourLine::Faulty(number) => HourLine::Faulty(number),
-    }
+    let hour = dated_line(facility, rest, RecordType::So2Concentration, period, from)?;
+    gas::try_so2(&rest[..layout::SO2_LENGTH])?;
+    Ok(hour)
 }
 
-// The fault of a line that is due with its type, whose row and picture these are; `hour` is the 200 line of its rank. 0 is none.
-pub fn due_fault(
+// A line that is due with its type, whose row and picture these are; `hour` is the 200 line of its rank.
+pub fn try_due(
     facility: &[u8],
     hour: &[u8],
     rest: &[u8],
     t: RecordType,
     row: Row,
     picture: &[u8],
-) -> u64
+) -> Result<(), Fault>
     requires length_of_in_bounds { (length_of RecordType.Facility ≤ length facility.now) × (1 ≤ date_column t → length hour.now ≡ length_of RecordType.So2Concentration) }
     requires known { Known t row picture.now }
-    ensures { result ≡ due_fault facility.now (due_of t hour.now) (first_line rest.now) }
+    ensures { fault_in fault_number result ≡ due_fault facility.now (due_of t hour.now) (first_line rest.now) }
 {
     if picture::is_right(facility, hour, rest, t, row, picture) {
-        return 0;
+        return Ok(());
     }
-    first_fault(facility, hour, rest, t)
+    try_tests(facility, hour, rest, t)
 }
 
 // The same, test by test.
-fn first_fault(facility: &[u8], hour: &[u8], rest: &[u8], t: RecordType) -> u64
+fn try_tests(facility: &[u8], hour: &[u8], rest: &[u8], t: RecordType) -> Result<(), Fault>
     requires { (length_of RecordType.Facility ≤ length facility.now) × (1 ≤ date_column t → length hour.now ≡ length_of RecordType.So2Concentration) }
-    ensures { result ≡ due_fault facility.now (due_of t hour.now) (first_line rest.now) }
+    ensures { fault_in fault_number result ≡ due_fault facility.now (due_of t hour.now) (first_line rest.now) }
 {
-    let common = faults::common_fault(facility, rest, t);
-    if common != 0 {
-        return common;
-    }
+    faults::try_common(facility, rest, t)?;
     let row = layout::row_of(t);
     let line = &rest[..row.length];
-    let dated = faults::ranked_date_fault(line, hour, row.date);
-    if dated != 0 {
-        return dated;
-    }
-    let gas = gas::gas_fault(line, hour, row.gas);
-    if gas != 0 {
-        return gas;
-    }
-    faults::values_fault(line, t)
+    faults::try_ranked_date(line, hour, row.date)?;
+    gas::try_gas(line, hour, row.gas)?;
+    faults::try_values(line, t)
 }

@@ -5,82 +5,64 @@ ghost use Rattle.layout.specs.Layout.{length_of};
 ghost use Rattle.layout.specs.Pictures.{whole_picture};
 ghost use Rattle.lines.specs.Lines.{first_line};
 ghost use Rattle.lines.specs.Beginning.{operating_at};
-ghost use Rattle.lines.specs.LineFaults.{shape_fault, idle_fault, operating_fault, timed_fault, said_of, operation_of, operation_line};
+ghost use Rattle.lines.specs.LineFaults.{shape_fault, idle_fault, operating_fault, timed_fault, operation_of, operation_line};
+ghost use Rattle.refusals.specs.Refusals.{fault_number, fault_in, told};
 
-use crate::{HourLine, Period, faults, picture};
+use crate::{Period, faults, picture};
 use columns::Field;
 use layout::{RecordType, values};
+use refusals::Fault;
 
-// The hour of the quarter that a 300 line is for, or the number of its fault.
+// The hour of the quarter that a 300 line is for.
 #[derive(Clone, Copy)]
 pub enum OperationLine {
     Operating(u64),
     Idle(u64),
-    Faulty(u64),
 }
 
-// 47: the heat of an idle hour.
-fn idle_fault(heat: Field) -> u64
-    ensures { result ≡ idle_fault heat }
+// The heat of an idle hour, which has none.
+fn try_idle(heat: Field) -> Result<(), Fault>
+    ensures { fault_in fault_number result ≡ idle_fault heat }
 {
     match heat {
-        Field::Number(_) => 47,
-        Field::Malformed => 47,
-        Field::Blank => 0,
+        Field::Blank => Ok(()),
+        _ => Err(Fault::IdleHeat),
     }
 }
 
-// 7 and 8: the date and the heat of an operating hour.
-fn operating_fault(line: &[u8], date: &[u8]) -> u64
+// The date and the heat of an operating hour.
+fn try_operating(line: &[u8], date: &[u8]) -> Result<(), Fault>
     requires { length line.now ≡ length_of RecordType.Operation }
-    ensures { result ≡ operating_fault date.now line.now }
+    ensures { fault_in fault_number result ≡ operating_fault date.now line.now }
 {
-    let dated = faults::date_fault(line, date, layout::OPERATION_DATE);
-    if dated != 0 {
-        return dated;
-    }
-    faults::value_fault(line, RecordType::Operation, values::HEAT_RATE)
-}
-
-// What a fault leaves to say of an hour that operates or is idle.
-fn said(fault: u64, hour: OperationLine) -> OperationLine
-    ensures { result ≡ said_of fault hour }
-{
-    if fault != 0 {
-        return OperationLine::Faulty(fault);
-    }
-    hour
+    faults::try_date(line, date, layout::OPERATION_DATE)?;
+    faults::try_value(line, RecordType::Operation, values::HEAT_RATE)
 }
 
 // A line whose hour is right: its time, and by it what follows.
-fn timed_line(line: &[u8], date: &[u8], hour: u64) -> OperationLine
+fn timed_line(line: &[u8], date: &[u8], hour: u64) -> Result<OperationLine, Fault>
     requires { length line.now ≡ length_of RecordType.Operation }
-    ensures { result ≡ operation_of (timed_fault date.now line.now) hour line.now }
+    ensures { told fault_number result ≡ operation_of (timed_fault date.now line.now) hour line.now }
 {
     let v = values::LISTED_TIME;
     let time = columns::read_number(line, v.start, v.width, v.decimals);
-    let fault = faults::field_fault(v, time);
-    if fault != 0 {
-        return OperationLine::Faulty(fault);
-    }
+    faults::try_field(v, time)?;
     if columns::number_of(time) == 0 {
         let v = values::HEAT_RATE;
-        let heat = columns::read_number(line, v.start, v.width, v.decimals);
-        return said(idle_fault(heat), OperationLine::Idle(hour));
+        try_idle(columns::read_number(line, v.start, v.width, v.decimals))?;
+        return Ok(OperationLine::Idle(hour));
     }
-    said(operating_fault(line, date), OperationLine::Operating(hour))
+    try_operating(line, date)?;
+    Ok(OperationLine::Operating(hour))
 }
 
 // A 300 line of an operating hour, of which its hour alone is left to try.
-fn operating_line(rest: &[u8], period: Period, from: u64) -> OperationLine
+fn operating_line(rest: &[u8], period: Period, from: u64) -> Result<OperationLine, Fault>
     requires { (shape_fault RecordType.Operation (first_line rest.now) ≡ 0) × IsQuarter period.quarter }
-    ensures { result ≡ operating_at period from (first_line rest.now) }
+    ensures { told fault_number result ≡ operating_at period from (first_line rest.now) }
 {
-    let stamped = crate::stamped_line(rest, RecordType::Operation, period, from);
-    match stamped {
-        HourLine::At(hour) => OperationLine::Operating(hour),
-        HourLine::Faulty(number) => OperationLine::Faulty(number),
-    }
+    let hour = crate::stamped_line(rest, RecordType::Operation, period, from)?;
+    Ok(OperationLine::Operating(hour))
 }
 
 // A 300 line, whose hour of the quarter must be at least `from`; `date` is that which it must have where it operates; `picture` is that of its type,
@@ -93,33 +75,30 @@ pub fn operation_line(
     date: &[u8],
     by_picture: bool,
     picture: &[u8],
-) -> OperationLine
+) -> Result<OperationLine, Fault>
     requires length_of_in_bounds { (length_of RecordType.Facility ≤ length facility.now) × IsQuarter period.quarter }
     requires picture_value { picture.now ≡ whole_picture RecordType.Operation }
-    ensures { result ≡ operation_line facility.now period from date.now (first_line rest.now) }
+    ensures { told fault_number result ≡ operation_line facility.now period from date.now (first_line rest.now) }
 {
     if by_picture {
         if picture::is_operating(facility, rest, date, picture) {
             return operating_line(rest, period, from);
         }
     }
-    operation_tried(facility, rest, period, from, date)
+    try_operation(facility, rest, period, from, date)
 }
 
 // The same, test by test.
-fn operation_tried(
+fn try_operation(
     facility: &[u8],
     rest: &[u8],
     period: Period,
     from: u64,
     date: &[u8],
-) -> OperationLine
+) -> Result<OperationLine, Fault>
     requires { (length_of RecordType.Facility ≤ length facility.now) × IsQuarter period.quarter }
-    ensures { result ≡ operation_line facility.now period from date.now (first_line rest.now) }
+    ensures { told fault_number result ≡ operation_line facility.now period from date.now (first_line rest.now) }
 {
-    let dated = crate::dated_line(facility, rest, RecordType::Operation, period, from);
-    match dated {
-        HourLine::At(hour) => timed_line(&rest[..layout::OPERATION_LENGTH], date, hour),
-        HourLine::Faulty(number) => OperationLine::Faulty(number),
-    }
+    let hour = crate::dated_line(facility, rest, RecordType::Operation, period, from)?;
+    timed_line(&rest[..layout::OPERATION_LENGTH], date, hour)
 }

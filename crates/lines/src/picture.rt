@@ -74,10 +74,10 @@ pub fn is_right(
         return false;
     }
     let line = &rest[..row.length];
-    if faults::ranked_date_fault(line, hour, row.date) != 0 {
+    if faults::try_ranked_date(line, hour, row.date).is_err() {
         return false;
     }
-    if gas::gas_fault(line, hour, row.gas) != 0 {
+    if gas::try_gas(line, hour, row.gas).is_err() {
         return false;
     }
     in_ranges(line, t)
@@ -94,7 +94,7 @@ pub fn is_operating(facility: &[u8], rest: &[u8], date: &[u8], picture: &[u8]) -
         return false;
     }
     let line = &rest[..layout::OPERATION_LENGTH];
-    if faults::date_fault(line, date, layout::OPERATION_DATE) != 0 {
+    if faults::try_date(line, date, layout::OPERATION_DATE).is_err() {
         return false;
     }
     if !is_pictured(facility, rest, t, layout::OPERATION_LENGTH, picture) {

@@ -3,21 +3,16 @@ ghost use Rattle.std.specs.Prelude.{◌≡◌, length};
 ghost use Rattle.lines.specs.Lines.{first_line};
 ghost use Rattle.lines.specs.LineFaults.{type_is, shape_fault};
 ghost use Rattle.lines.specs.Beginning.{is_line};
+ghost use Rattle.refusals.specs.Refusals.{fault_number, fault_in};
 
 use layout::RecordType;
+use refusals::Fault;
 
 // How many bytes stand before the first byte 10.
 fn line_end(rest: &[u8]) -> usize
     ensures { result ≡ length (first_line rest.now) }
 {
-    let mut i = 0;
-    while i < rest.len() {
-        if rest[i] == 10 {
-            return i;
-        }
-        i += 1;
-    }
-    i
+    rest.iter().position(|b| *b == 10).unwrap_or(rest.len())
 }
 
 pub fn type_is(rest: &[u8], t: RecordType) -> bool
@@ -43,23 +38,23 @@ fn is_line(rest: &[u8], long: usize) -> bool
     columns::all_printable(&rest[..long])
 }
 
-// The fault of the type, the length or a byte (2, 3, 4), or 0.
-pub fn shape_fault(rest: &[u8], t: RecordType) -> u64
-    ensures { result ≡ shape_fault t (first_line rest.now) }
+// The type, the length and the bytes.
+pub fn try_shape(rest: &[u8], t: RecordType) -> Result<(), Fault>
+    ensures { fault_in fault_number result ≡ shape_fault t (first_line rest.now) }
 {
     if !type_is(rest, t) {
-        return 2;
+        return Err(Fault::Type);
     }
     let long = layout::line_length(t);
     if is_line(rest, long) {
-        return 0;
+        return Ok(());
     }
     let end = line_end(rest);
     if end != long {
-        return 3;
+        return Err(Fault::Length);
     }
     if !columns::all_printable(&rest[..end]) {
-        return 4;
+        return Err(Fault::Byte);
     }
-    0
+    Ok(())
 }

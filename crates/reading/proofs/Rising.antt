@@ -14,8 +14,8 @@ use Rattle.lines.proofs.LineLaws.{lines_at_lem, line_at, line_part}
 use Rattle.lines.specs.LineFaults.{type_is, hour_in, hour_fault, hour_line}
 use Rattle.lines.proofs.FaultLaws.{shape_length, hour_shape, hour_rises, hour_said_lem}
 use Rattle.lines.specs.declared.Period.{Period}
-use Rattle.lines.specs.declared.HourLine.{HourLine}
-use Rattle.lines.specs.declared.HourLine.TheVariants.{At, Faulty}
+use Rattle.lines.specs.LineFaults.{HourLine}
+use Rattle.std.specs.Prelude.{Ok as At, Err as Faulty}
 use Rattle.reading.specs.Reading.{stopped_at, walk_later, walk_hours}
 use Rattle.reading.specs.Places.{facility_of, hour_line_in, hour_lines_in, Counted, hour_start}
 use Rattle.reading.specs.declared.Reading.{Reading}

@@ -15,8 +15,8 @@ use Rattle.lines.proofs.LineLaws.{lines_at_lem, line_at, line_part}
 use Rattle.lines.specs.LineFaults.{period_on, facility_fault, facility_line}
 use Rattle.lines.proofs.FaultLaws.{shape_length, facility_shape, facility_quarter, facility_said}
 use Rattle.lines.specs.declared.Period.{Period}
-use Rattle.lines.specs.declared.FacilityLine.{FacilityLine}
-use Rattle.lines.specs.declared.FacilityLine.TheVariants.{Of, Faulty}
+use Rattle.lines.specs.LineFaults.{FacilityLine}
+use Rattle.std.specs.Prelude.{Ok as Of, Err as Faulty}
 use Rattle.reading.specs.CleanLaws.{ended_walked}
 use Rattle.reading.specs.Reading.{stopped_at, walk_hours, walk, read_of}
 use Rattle.reading.specs.Places.{facility_of, hour_start}

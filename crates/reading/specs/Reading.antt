@@ -7,8 +7,8 @@ use Rattle.layout.specs.declared.Shape.{Shape}
 use Rattle.lines.specs.Lines.{lines, last}
 use Rattle.lines.specs.LineFaults.{type_is, facility_line, date_on, hour_line, Due, due_of, due_fault, operation_line}
 use Rattle.lines.specs.declared.Period.{Period}
-use Rattle.lines.specs.declared.FacilityLine.TheVariants.{Of, Faulty as FaultyFacility}
-use Rattle.lines.specs.declared.HourLine.TheVariants.{At, Faulty as FaultyHour}
+use Rattle.std.specs.Prelude.{Ok as Of, Err as FaultyFacility}
+use Rattle.std.specs.Prelude.{Ok as At, Err as FaultyHour}
 use Rattle.lines.specs.declared.operation.OperationLine.TheVariants.{Operating, Idle, Faulty as FaultyOperation}
 use Rattle.reading.specs.declared.Report.{Report}
 use Rattle.reading.specs.declared.Reading.{Reading}

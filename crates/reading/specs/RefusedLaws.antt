@@ -25,10 +25,10 @@ use Rattle.lines.proofs.RightLaws.RightTime.{runs, rests}
 use Rattle.lines.specs.Clauses.{facility_clauses, hour_clauses, due_clauses, listed_clauses, of_line_checks}
 use Rattle.lines.proofs.ClauseLaws.{facility_told, hour_told, due_told, listed_told, OfLines, values_numbers}
 use Rattle.lines.specs.declared.Period.{Period}
-use Rattle.lines.specs.declared.FacilityLine.{FacilityLine}
-use Rattle.lines.specs.declared.FacilityLine.TheVariants.{Of, Faulty as FaultyFacility}
-use Rattle.lines.specs.declared.HourLine.{HourLine}
-use Rattle.lines.specs.declared.HourLine.TheVariants.{At, Faulty as FaultyHour}
+use Rattle.lines.specs.LineFaults.{FacilityLine}
+use Rattle.std.specs.Prelude.{Ok as Of, Err as FaultyFacility}
+use Rattle.lines.specs.LineFaults.{HourLine}
+use Rattle.std.specs.Prelude.{Ok as At, Err as FaultyHour}
 use Rattle.lines.specs.declared.operation.OperationLine.{OperationLine}
 use Rattle.lines.specs.declared.operation.OperationLine.TheVariants.{Operating, Idle, Faulty as FaultyOperation}
 use Rattle.reading.specs.Reading.{stopped_at, run_of, runs_of, After, walk_due, end_operations, next_date, walk_operations}

@@ -20,10 +20,10 @@ use Rattle.lines.specs.RightLine.{RightFacility, RightDue, RightListed}
 use Rattle.lines.proofs.RightLaws.{facility_right, hour_right, due_says, RightTime, operation_right}
 use Rattle.lines.proofs.RightLaws.RightTime.{runs, rests}
 use Rattle.lines.specs.declared.Period.{Period}
-use Rattle.lines.specs.declared.FacilityLine.{FacilityLine}
-use Rattle.lines.specs.declared.FacilityLine.TheVariants.{Of, Faulty as FaultyFacility}
-use Rattle.lines.specs.declared.HourLine.{HourLine}
-use Rattle.lines.specs.declared.HourLine.TheVariants.{At, Faulty as FaultyHour}
+use Rattle.lines.specs.LineFaults.{FacilityLine}
+use Rattle.std.specs.Prelude.{Ok as Of, Err as FaultyFacility}
+use Rattle.lines.specs.LineFaults.{HourLine}
+use Rattle.std.specs.Prelude.{Ok as At, Err as FaultyHour}
 use Rattle.lines.specs.declared.operation.OperationLine.{OperationLine}
 use Rattle.lines.specs.declared.operation.OperationLine.TheVariants.{Operating, Idle, Faulty as FaultyOperation}
 use Rattle.reading.specs.Reading.{stopped_at, first_types, last_types, run_of, runs_of, After, end_operations, next_date, walk_operations}

@@ -15,8 +15,8 @@ use Rattle.layout.specs.declared.RecordType.TheVariants.{Facility}
 use Rattle.lines.specs.Lines.{first_line}
 use Rattle.exact.specs.Faults.{unless}
 use Rattle.lines.specs.LineFaults.{shape_fault, stack_of, digits_in, facility_fault, facility_line}
-use Rattle.lines.specs.declared.FacilityLine.{FacilityLine}
-use Rattle.lines.specs.declared.FacilityLine.TheVariants.{Of, Faulty}
+use Rattle.lines.specs.LineFaults.{FacilityLine}
+use Rattle.std.specs.Prelude.{Ok as Of, Err as Faulty}
 use Rattle.lines.proofs.Chains.{first_of}
 use Rattle.lines.proofs.Shapes.{line_known, line_length_lem, line_fine}
 use Rattle.lines.proofs.Answers.{facility_faulty, facility_of_lem, facility_tests}

@@ -10,7 +10,7 @@ use Rattle.exact.specs.Faults.{or_next}
 use Rattle.lines.specs.Lines.{first_line}
 use Rattle.lines.specs.LineFaults.{field_in, so2_fault, hour_fault}
 use Rattle.lines.specs.declared.Period.{Period}
-use Rattle.lines.specs.declared.HourLine.TheVariants.{At as OfHour}
+use Rattle.std.specs.Prelude.{Ok as OfHour}
 use Rattle.lines.proofs.Chains.{first_of}
 use Rattle.lines.proofs.Answers.{Dated, dated_known, dated_not, hour_faulty, hour_of_lem}
 use Rattle.lines.proofs.hour_line.Statement.{statement}

@@ -13,7 +13,7 @@ use Rattle.layout.specs.declared.RecordType.TheVariants.{Facility, So2Concentrat
 use Rattle.lines.specs.Lines.{first_line}
 use Rattle.lines.specs.LineFaults.{type_is, hour_line}
 use Rattle.lines.specs.declared.Period.{Period}
-use Rattle.lines.specs.declared.HourLine.{HourLine}
+use Rattle.lines.specs.LineFaults.{HourLine}
 use Rattle.reading.specs.Places.{facility_of}
 use Rattle.columns.proofs.ColumnsLaws.{part_end}
 use Rattle.reading.proofs.Rising.{Rising, rising_start, rising_counted, rising_end, rising_other, rising_found, rising_next}
