@@ -21,6 +21,7 @@ use Rattle.layout.specs.declared.RecordType.TheVariants.{Facility, So2Concentrat
 use Rattle.layout.specs.declared.values.Value.{Value}
 use Rattle.stamp.specs.StampLaws.{stamp_inside, stamp_below}
 use Rattle.exact.specs.Faults.{unless, or_zero, unless_zero}
+use Rattle.lines.specs.LineFaults.{FacilityLine}
 use Rattle.lines.specs.LineFaults.{type_is, shape_fault, stack_of, common_fault, field_fault, field_in, values_fault, digits_in, period_on}
 use Rattle.lines.specs.LineFaults.{facility_fault, facility_line, rising_fault, date_on, hour_on, dated_fault, hour_said, hour_fault, hour_number, hour_in, hour_line}
 use Rattle.lines.specs.LineFaults.{so2_fault, Due, date_fault, gas_fault, due_fault}
@@ -172,11 +173,11 @@ module _ (facility : List ℕ) (period : Period) (from : ℕ) (line : List ℕ) 
 
 -- what lines 100 and 200 say, they say without fault
 
-pub facility_said : (line : List ℕ) (period : Period) → facility_line line ≡ Of period → (facility_fault line ≡ 0) × (period_on line ≡ period)
+pub facility_said : (line : List ℕ) (period : Period) → ◌≡◌ {A = FacilityLine} (facility_line line) (Of period) → (facility_fault line ≡ 0) × (period_on line ≡ period)
 unfolding facility_line
 facility_said line period e = go (facility_fault line) refl e
   where
-    go : (f : ℕ) → facility_fault line ≡ f → elim f [ zero ↦ Of (period_on line) | suc c ↦ FaultyFacility (suc c) ] ≡ Of period →
+    go : (f : ℕ) → facility_fault line ≡ f → ◌≡◌ {A = FacilityLine} (elim f [ zero ↦ Of (period_on line) | suc c ↦ FaultyFacility (suc c) ]) (Of period) →
         (facility_fault line ≡ 0) × (period_on line ≡ period)
     go zero k w = (k, cc)
     go (suc c) k w = absurd (let z : ◌≡◌ {A = ℕ} 0 1 = cc in omega arith)

@@ -17,3 +17,4 @@ pub mod PictureExamples
 pub mod RightLaws
 pub mod WidthExamples
 pub mod DateLaws
+pub mod Ends

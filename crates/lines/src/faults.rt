@@ -18,6 +18,7 @@ pub const STACK_FROM: usize = layout::STACK_START - 1;
 pub const STACK_TO: usize = STACK_FROM + layout::STACK_WIDTH;
 
 // The stack name, in a line that is long enough.
+#[tactic(auto, unfolding(columns::specs::Columns::columns, crate::specs::LineFaults::stack_fault))]
 fn try_stack(facility: &[u8], line: &[u8]) -> Result<(), Fault>
     requires { (length_of RecordType.Facility ≤ length facility.now) × (length_of RecordType.Facility ≤ length line.now) }
     ensures { fault_in fault_number result ≡ stack_fault facility.now line.now }
@@ -29,6 +30,7 @@ fn try_stack(facility: &[u8], line: &[u8]) -> Result<(), Fault>
 }
 
 // What every line behind line 100 is tried for first.
+#[tactic(auto, unfolding(crate::specs::LineFaults::common_fault), using(crate::proofs::Shapes::line_known, crate::proofs::Shapes::line_length_lem, refusals::proofs::Numbers::fault_positive, refusals::proofs::Numbers::first_said, refusals::proofs::Numbers::next_said))]
 pub fn try_common(facility: &[u8], rest: &[u8], t: RecordType) -> Result<(), Fault>
     requires { length_of RecordType.Facility ≤ length facility.now }
     ensures { fault_in fault_number result ≡ common_fault facility.now t (first_line rest.now) }
@@ -47,6 +49,7 @@ pub fn digits_in(line: &[u8], v: Value) -> u64
 }
 
 // A value's format, its range and its step.
+#[tactic(auto, unfolding(crate::specs::LineFaults::field_fault))]
 pub fn try_field(v: Value, field: Field) -> Result<(), Fault>
     requires { 1 ≤ v.step }
     ensures { fault_in fault_number result ≡ field_fault v field }
@@ -84,6 +87,7 @@ pub fn try_values(line: &[u8], t: RecordType) -> Result<(), Fault>
 }
 
 // A date and hour that must be `date`, from its column on.
+#[tactic(auto, unfolding(columns::specs::Columns::columns, crate::specs::LineFaults::date_fault))]
 pub fn try_date(line: &[u8], date: &[u8], column: usize) -> Result<(), Fault>
     requires { (1 ≤ column) × (column - 1 + date_width ≤ length line.now) }
     ensures { fault_in fault_number result ≡ date_fault column date.now line.now }
@@ -96,6 +100,7 @@ pub fn try_date(line: &[u8], date: &[u8], column: usize) -> Result<(), Fault>
 }
 
 // A date and hour that must be those of the 200 line `hour`; a type without one has column 0.
+#[tactic(auto, unfolding(columns::specs::Columns::columns, crate::specs::LineFaults::date_fault))]
 pub fn try_ranked_date(line: &[u8], hour: &[u8], column: usize) -> Result<(), Fault>
     requires { (column - 1 + date_width ≤ length line.now) × (1 ≤ column → length hour.now ≡ length_of RecordType.So2Concentration) }
     ensures { fault_in fault_number result ≡ date_fault column (date_on RecordType.So2Concentration hour.now) line.now }

@@ -28,6 +28,7 @@ fn so2_blank(hour: &[u8]) -> bool
 }
 
 // The two go together, on lines of a type that may have GAS.
+#[tactic(auto, unfolding(crate::specs::LineFaults::gas_fault))]
 pub fn try_gas(line: &[u8], hour: &[u8], gas: bool) -> Result<(), Fault>
     requires { gas ≡ true → (length_of RecordType.So2Mass ≤ length line.now) × (length hour.now ≡ length_of RecordType.So2Concentration) }
     ensures { fault_in fault_number result ≡ gas_fault gas hour.now line.now }
@@ -42,6 +43,7 @@ pub fn try_gas(line: &[u8], hour: &[u8], gas: bool) -> Result<(), Fault>
 }
 
 // The value of a 200 line, which may be blank there.
+#[tactic(auto, unfolding(crate::specs::LineFaults::so2_fault))]
 pub fn try_so2(line: &[u8]) -> Result<(), Fault>
     requires { length line.now ≡ length_of RecordType.So2Concentration }
     ensures { fault_in fault_number result ≡ so2_fault (field_in so2_ppm line.now) }
@@ -49,7 +51,8 @@ pub fn try_so2(line: &[u8]) -> Result<(), Fault>
     let v = values::SO2_PPM;
     let so2 = columns::read_number(line, v.start, v.width, v.decimals);
     match so2 {
+        Field::Number(_) => faults::try_field(v, so2),
+        Field::Malformed => Err(Fault::Format),
         Field::Blank => Ok(()),
-        _ => faults::try_field(v, so2),
     }
 }

@@ -1,5 +1,5 @@
 // The first line of what is left of a file: its length, its type and its shape.
-ghost use Rattle.std.specs.Prelude.{◌≡◌, length};
+ghost use Rattle.std.specs.Prelude.{◌≡◌, ◌==◌, length, position};
 ghost use Rattle.lines.specs.Lines.{first_line};
 ghost use Rattle.lines.specs.LineFaults.{type_is, shape_fault};
 ghost use Rattle.lines.specs.Beginning.{is_line};
@@ -8,11 +8,18 @@ ghost use Rattle.refusals.specs.Refusals.{fault_number, fault_in};
 use layout::RecordType;
 use refusals::Fault;
 
-// How many bytes stand before the first byte 10.
+// Where the first byte 10 stands.
+fn first_end(rest: &[u8]) -> Option<usize>
+    ensures { result ≡ position (λ b. b == 10) rest.now }
+{
+    rest.iter().position(|b| *b == 10)
+}
+
+// How many bytes stand before it.
 fn line_end(rest: &[u8]) -> usize
     ensures { result ≡ length (first_line rest.now) }
 {
-    rest.iter().position(|b| *b == 10).unwrap_or(rest.len())
+    first_end(rest).unwrap_or(rest.len())
 }
 
 pub fn type_is(rest: &[u8], t: RecordType) -> bool
@@ -39,6 +46,7 @@ fn is_line(rest: &[u8], long: usize) -> bool
 }
 
 // The type, the length and the bytes.
+#[tactic(auto, unfolding(crate::specs::LineFaults::shape_fault))]
 pub fn try_shape(rest: &[u8], t: RecordType) -> Result<(), Fault>
     ensures { fault_in fault_number result ≡ shape_fault t (first_line rest.now) }
 {
