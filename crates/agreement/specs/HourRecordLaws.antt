@@ -1,6 +1,6 @@
 -- The written records of a report, one by one, pass the line checks.
 use Prim.Native.Nat.{ℕ, zero, suc, ◌+◌, ◌-◌, ◌≤◌, ◌<◌}
-use Rattle.std.specs.Prelude.{◌≡◌, Bool, length}
+use Rattle.std.specs.Prelude.{◌≡◌, Bool, length, Ok, Some}
 use Rattle.std.proofs.Math.Path.{refl, ap}
 use Rattle.std.proofs.Common.{◌∙◌}
 use Rattle.std.proofs.Math.Bool.{true, false}
@@ -19,7 +19,6 @@ use Rattle.columns.proofs.WrittenLaws.{digits_length, written_length}
 use Rattle.columns.specs.Rewritten.{DigitsWritten}
 use Rattle.columns.proofs.RewrittenLaws.{digits_written}
 use Rattle.calendar.specs.Calendar.{hours_in_quarter}
-use Rattle.std.specs.Prelude.{Some as At}
 use Rattle.layout.specs.Layout.{record_of, length_of, stack_width, date_column, date_width, gas_start, gas_word, values_of}
 use Rattle.layout.specs.Values.{year_digits, quarter_digit, so2_ppm, so2_rate, Within}
 use Rattle.layout.specs.LayoutLaws.{date_inside, true_within}
@@ -35,8 +34,6 @@ use Rattle.lines.specs.FaultLaws.{DueRight}
 use Rattle.lines.proofs.FaultLaws.{so2_right}
 use Rattle.lines.proofs.OperationLaws.{operation_said, due_operates, due_operation}
 use Rattle.lines.specs.declared.Period.{Period}
-use Rattle.std.specs.Prelude.{Ok as Of}
-use Rattle.std.specs.Prelude.{Ok as OfHour}
 use Rattle.lines.specs.declared.operation.OperationLine.TheVariants.{Operating}
 use Rattle.sheet.specs.SheetTests.{Heading}
 use Rattle.writer.specs.Recorded.{ReportHour}
@@ -111,9 +108,9 @@ module _ (year quarter : ℕ) (name : List ℕ) (g : Heading year quarter name) 
         true_within quarter_digit quarter q,
       )
 
-  pub facility_named : facility_line facility ≡ Of period
+  pub facility_named : facility_line facility ≡ Ok period
   unfolding facility_line
-  facility_named = rw (facility_right, facility_line) (λ i. Of (record { year = year_read i; quarter = quarter_read i }))
+  facility_named = rw (facility_right, facility_line) (λ i. Ok (record { year = year_read i; quarter = quarter_read i }))
 
   -- a record of an hour, of a type that has a date
   module _ (t : RecordType) (dated : 1 ≤ date_column t) (h : ReportHour) where
@@ -210,7 +207,7 @@ module _ (year quarter : ℕ) (name : List ℕ) (g : Heading year quarter name) 
 
   -- the 200 line and the 300 line of an hour that may follow
   module _ (h : ReportHour) (b : h.hour < hours_in_quarter year quarter) where
-    named_hour : (t : RecordType) → 1 ≤ date_column t → hour_on period t (hour_record year quarter name t h) ≡ At h.hour
+    named_hour : (t : RecordType) → 1 ≤ date_column t → hour_on period t (hour_record year quarter name t h) ≡ Some h.hour
     named_hour t d = rw (hour_date t d h) (stamp_names year quarter g.is_quarter h.hour b)
 
     hour_rises : (t : RecordType) → 1 ≤ date_column t → (from : ℕ) → from ≤ h.hour → rising_fault from (hour_on period t (hour_record year quarter name t h)) ≡ 0
@@ -223,9 +220,9 @@ module _ (year quarter : ℕ) (name : List ℕ) (g : Heading year quarter name) 
       hour_right from f =
           rw (hour_common So2Concentration (omega arith) h, hour_rises So2Concentration (omega arith) from f) (hour_so2 h a).0
 
-      pub hour_named : (from : ℕ) → from ≤ h.hour → hour_line facility period from (hour_record year quarter name So2Concentration h) ≡ OfHour h.hour
+      pub hour_named : (from : ℕ) → from ≤ h.hour → hour_line facility period from (hour_record year quarter name So2Concentration h) ≡ Ok h.hour
       unfolding hour_line hour_number
-      hour_named from f = rw (hour_right from f, hour_line) (ap (λ x. OfHour (hour_number x)) (named_hour So2Concentration (omega arith)))
+      hour_named from f = rw (hour_right from f, hour_line) (ap (λ x. Ok (hour_number x)) (named_hour So2Concentration (omega arith)))
 
     module _ (a : ValuesWithin (values_of Operation) (hour_values Operation h.recorded))
         (so2 : ValuesWithin (values_of So2Concentration) (hour_values So2Concentration h.recorded)) where
@@ -237,14 +234,14 @@ module _ (year quarter : ℕ) (name : List ℕ) (g : Heading year quarter name) 
       pub operation_named : (from : ℕ) → from ≤ h.hour →
           operation_line facility period from (date_on So2Concentration (hour_record year quarter name So2Concentration h))
           (hour_record year quarter name Operation h)
-          ≡ Operating h.hour
+          ≡ Ok (Operating h.hour)
       unfolding hour_number
       operation_named from f =
           let l = hour_record year quarter name Operation h in
           let hour = hour_record year quarter name So2Concentration h in
           operation_said facility period from (date_on So2Concentration hour) l
           (due_operation facility period from hour l (hour_due_lem Operation (omega arith) h a so2) (hour_rises Operation (omega arith) from f))
-          ∙ rw (hour_operates) (ap (λ x. Operating (hour_number x)) (named_hour Operation (omega arith)))
+          ∙ rw (hour_operates) (ap (λ x. Ok (Operating (hour_number x))) (named_hour Operation (omega arith)))
 
   module _ (q : Quarter) where
     pub totals_framed : Framed QuarterTotals name (totals_record name q)

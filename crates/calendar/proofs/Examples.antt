@@ -1,11 +1,11 @@
 -- Known dates, computed by the definitions.
+use Rattle.std.specs.Prelude.{Some, None}
 use Prim.Native.Nat.{ℕ, zero, suc, ◌+◌, ◌%◌}
 use mathlib.Core.Bool.{true, false}
 use mathlib.Core.List.{List, [], ◌∷◌, map}
 use mathlib.Core.Path.{◌≡◌, refl}
 use lib.Dec.{eqb}
 use Rattle.calendar.specs.declared.Date.{Date}
-use Rattle.std.specs.Prelude.{Some as At, None as Outside}
 use Rattle.calendar.specs.Calendar.{leap_year, days_in_month, days_in_quarter, hours_in_quarter, in_quarter}
 use Rattle.calendar.specs.Calendar.{days_before, hour_of_quarter, month_of_day, date_of_hour, quarter_hour}
 
@@ -46,9 +46,9 @@ dates :
     (quarter_hour 2000 1 (on 2 29 0) ∷ quarter_hour 2000 1 (on 3 1 0) ∷ quarter_hour 2001 1 (on 2 29 0) ∷ quarter_hour 2001 1 (on 3 1 0) ∷
     quarter_hour 2001 3 (on 7 1 0) ∷ quarter_hour 2001 3 (on 8 31 23) ∷ quarter_hour 2001 3 (on 9 30 23) ∷ quarter_hour 2001 3 (on 9 31 0) ∷
     quarter_hour 2001 3 (on 9 30 24) ∷ quarter_hour 2001 3 (on 10 1 0) ∷ quarter_hour 2001 3 (on 7 0 0) ∷ []) ≡
-    (At 1416 ∷ At 1440 ∷ Outside ∷ At 1416 ∷
-    At 0 ∷ At 1487 ∷ At 2207 ∷ Outside ∷
-    Outside ∷ Outside ∷ Outside ∷ [])
+    (Some 1416 ∷ Some 1440 ∷ None ∷ Some 1416 ∷
+    Some 0 ∷ Some 1487 ∷ Some 2207 ∷ None ∷
+    None ∷ None ∷ None ∷ [])
 unfolding quarter_hour in_quarter hour_of_quarter days_before days_in_month leap_year on
 dates = refl
 
@@ -57,9 +57,9 @@ ends :
     (quarter_hour 2001 2 (on 4 1 0) ∷ quarter_hour 2001 2 (on 4 30 23) ∷ quarter_hour 2001 2 (on 4 31 0) ∷ quarter_hour 2001 2 (on 5 31 23) ∷
     quarter_hour 2001 2 (on 6 30 23) ∷ quarter_hour 2001 2 (on 6 31 0) ∷ quarter_hour 2001 4 (on 10 1 0) ∷ quarter_hour 2001 4 (on 10 31 23) ∷
     quarter_hour 2001 4 (on 11 30 23) ∷ quarter_hour 2001 4 (on 11 31 0) ∷ quarter_hour 2001 4 (on 12 31 23) ∷ []) ≡
-    (At 0 ∷ At 719 ∷ Outside ∷ At 1463 ∷
-    At 2183 ∷ Outside ∷ At 0 ∷ At 743 ∷
-    At 1463 ∷ Outside ∷ At 2207 ∷ [])
+    (Some 0 ∷ Some 719 ∷ None ∷ Some 1463 ∷
+    Some 2183 ∷ None ∷ Some 0 ∷ Some 743 ∷
+    Some 1463 ∷ None ∷ Some 2207 ∷ [])
 unfolding quarter_hour in_quarter hour_of_quarter days_before days_in_month leap_year on
 ends = refl
 

@@ -1,8 +1,7 @@
 -- Gregorian dates and the hours of a quarter of a year. Every definition computes. Months, days and quarters count from 1,
 -- hours of a day and hours of a quarter from 0.
-use Rattle.std.specs.Prelude.{ℕ, Option, ◌+◌, ◌*◌, ◌-◌, ◌/◌, ◌%◌, ◌≤◌, Bool, cond, ◌&&◌, ◌||◌, not, eqb, leb, ltb}
+use Rattle.std.specs.Prelude.{ℕ, Option, ◌+◌, ◌*◌, ◌-◌, ◌/◌, ◌%◌, ◌≤◌, Bool, cond, ◌&&◌, ◌||◌, not, eqb, leb, ltb, Some, None}
 use Rattle.calendar.specs.declared.Date.{Date}
-use Rattle.std.specs.Prelude.{Some as At, None as Outside}
 
 unfoldable pub leap_year : ℕ → Bool
 leap_year year = (eqb (year % 4) 0 && not (eqb (year % 100) 0)) || eqb (year % 400) 0
@@ -80,7 +79,7 @@ QuarterHour = Option ℕ
 
 -- where a date lies in the quarter
 unfoldable pub quarter_hour : ℕ → ℕ → Date → QuarterHour
-quarter_hour year quarter date = cond (in_quarter year quarter date) (At (hour_of_quarter year quarter date)) Outside
+quarter_hour year quarter date = cond (in_quarter year quarter date) (Some (hour_of_quarter year quarter date)) None
 
 -- each part of a date has two digits at most
 pub record TwoDigits (date : Date) : Type 0 where

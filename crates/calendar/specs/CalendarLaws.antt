@@ -1,6 +1,6 @@
 -- What holds of the hours and the dates of a quarter: how many hours there are, that hours and dates are each other's inverse,
 -- and what bounds them.
-use Rattle.std.specs.Prelude.{ℕ, ◌+◌, ◌*◌, ◌-◌, ◌/◌, ◌%◌, ◌<◌, Bool, ◌&&◌, ◌≡◌, leb}
+use Rattle.std.specs.Prelude.{ℕ, ◌+◌, ◌*◌, ◌-◌, ◌/◌, ◌%◌, ◌<◌, Bool, ◌&&◌, ◌≡◌, leb, Some, None}
 use Rattle.std.proofs.Math.Bool.{true, false, cond, and-eq-true_iff}
 use Rattle.std.proofs.Math.Path.{refl, subst⁻¹}
 use Rattle.std.proofs.Common.{ap, sym, ◌∙◌}
@@ -8,7 +8,6 @@ use native.Mathlib.Omega.{arith}
 use Rattle.std.proofs.Math.Decide.{ℕ_discrete}
 use borrow.Author.Tests.{le-leb, leb-true}
 use Rattle.calendar.specs.declared.Date.{Date}
-use Rattle.std.specs.Prelude.{Some as At, None as Outside}
 use Rattle.calendar.specs.Calendar.{LiesIn, TwoDigits, most_hours, IsQuarter, leap_year, days_in_month, first_month, days_in_quarter, hours_in_quarter}
 use Rattle.calendar.specs.Calendar.{in_quarter, days_before, hour_of_quarter, month_of_day, date_of_hour, quarter_hour, Between}
 use Rattle.calendar.specs.MonthLaws.{cond_between, days_in_month_lem, month_ends, Holds, month_starts, month_holds, month_of_day_lem}
@@ -122,20 +121,20 @@ pub record AtHour (year quarter : ℕ) (date : Date) (hour : ℕ) : Type 0 where
   pub back : date_of_hour year quarter hour ≡ date
 
 module _ (year quarter : ℕ) (date : Date) where
-  pub inside : LiesIn year quarter date → quarter_hour year quarter date ≡ At (hour_of_quarter year quarter date)
+  pub inside : LiesIn year quarter date → quarter_hour year quarter date ≡ Some (hour_of_quarter year quarter date)
   unfolding quarter_hour
   inside h = simp (in_quarter_lem year quarter date h)
 
-  pub outside : (LiesIn year quarter date → ⊥) → quarter_hour year quarter date ≡ Outside
+  pub outside : (LiesIn year quarter date → ⊥) → quarter_hour year quarter date ≡ None
   unfolding quarter_hour
   outside n = go (in_quarter year quarter date) (lies_in year quarter date)
     where
-      go : (t : Bool) → (t ≡ true → LiesIn year quarter date) → cond t (At (hour_of_quarter year quarter date)) Outside ≡ Outside
+      go : (t : Bool) → (t ≡ true → LiesIn year quarter date) → cond t (Some (hour_of_quarter year quarter date)) None ≡ None
       go true h = absurd (n (h refl))
       go false h = refl
 
   -- At is the answer for the dates of the quarter alone, each at its own hour
-  pub at_hour : (hour : ℕ) → quarter_hour year quarter date ≡ At hour → AtHour year quarter date hour
+  pub at_hour : (hour : ℕ) → quarter_hour year quarter date ≡ Some hour → AtHour year quarter date hour
   unfolding quarter_hour
   at_hour hour = go (in_quarter year quarter date) (lies_in year quarter date)
     where
@@ -149,15 +148,15 @@ module _ (year quarter : ℕ) (date : Date) where
           }
 
       go :
-          (t : Bool) → (t ≡ true → LiesIn year quarter date) → cond t (At (hour_of_quarter year quarter date)) Outside ≡ At hour →
+          (t : Bool) → (t ≡ true → LiesIn year quarter date) → cond t (Some (hour_of_quarter year quarter date)) None ≡ Some hour →
           AtHour year quarter date hour
       go true h e = own (h refl) (cc)
       go false h e = let z : ◌≡◌ {A = ℕ} 0 1 = cc in absurd (omega arith)
 
-  pub at_hour_below : IsQuarter quarter → (hour : ℕ) → quarter_hour year quarter date ≡ At hour → hour < most_hours
+  pub at_hour_below : IsQuarter quarter → (hour : ℕ) → quarter_hour year quarter date ≡ Some hour → hour < most_hours
   at_hour_below q hour e = omega (arith, (at_hour hour e).below, hours_in_quarter_lem year quarter q)
 
 -- each hour of the quarter is the answer for its date
-pub hour_at_lem : (year quarter hour : ℕ) → hour < hours_in_quarter year quarter → quarter_hour year quarter (date_of_hour year quarter hour) ≡ At hour
+pub hour_at_lem : (year quarter hour : ℕ) → hour < hours_in_quarter year quarter → quarter_hour year quarter (date_of_hour year quarter hour) ≡ Some hour
 hour_at_lem year quarter hour h =
-    inside year quarter (date_of_hour year quarter hour) (date_in_quarter year quarter hour h) ∙ ap At (hour_of_date year quarter hour)
+    inside year quarter (date_of_hour year quarter hour) (date_in_quarter year quarter hour h) ∙ ap Some (hour_of_date year quarter hour)

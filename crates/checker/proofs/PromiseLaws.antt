@@ -22,8 +22,8 @@ use Rattle.reading.specs.RefusedLaws.{refused_by, refused_number}
 use Rattle.reading.specs.RightFile.{RightFile}
 use Rattle.reading.specs.RightFileLaws.{read_right, right_read}
 use Rattle.reading.specs.declared.Report.{Report}
-use Rattle.reading.specs.declared.Reading.{Reading}
-use Rattle.reading.specs.declared.Reading.TheVariants.{Clean, Refused as Stopped}
+use Rattle.reading.specs.Reading.{Reading}
+use Rattle.std.specs.Prelude.{Ok as Clean, Err as Stopped}
 use Rattle.checker.specs.Checked.{refusal, answer_numbers, refused_at, line_named, answer_of, verdict_on, judged, after_reading, checked}
 use Rattle.checker.proofs.JudgingLaws.{right_judgeable, figure_named, file_judged}
 use Rattle.checker.specs.Promise.{HonestlyRounded, operating_lines, FailsAt, DiffersAt, Promise}

@@ -6,8 +6,8 @@ use Rattle.judging.specs.declared.Verdict.{Verdict}
 use Rattle.judging.specs.declared.Verdict.TheVariants.{Accepted as Right, Refused as Failed}
 use Rattle.reading.specs.Reading.{read_of}
 use Rattle.reading.specs.Recorded.{record_at, hours_of, totals_in}
-use Rattle.reading.specs.declared.Reading.{Reading}
-use Rattle.reading.specs.declared.Reading.TheVariants.{Clean, Refused as Stopped}
+use Rattle.reading.specs.Reading.{Reading}
+use Rattle.std.specs.Prelude.{Ok as Clean, Err as Stopped}
 use Rattle.checker.specs.declared.Answer.{Answer}
 use Rattle.checker.specs.declared.Answer.TheVariants.{Accepted, Refused}
 

@@ -7,7 +7,7 @@ use lib.ListN.{length, get_or, set}
 use borrow.Author.Tests.{lt-ltb, le-ltb, eq-eqb, ne_eqb}
 use Rattle.layout.specs.Layout.{stack_width}
 use Rattle.totals.specs.declared.Quarter.{Quarter}
-use Rattle.reading.specs.declared.Refusal.{Refusal}
+use Rattle.refusals.specs.Refusals.{PaperRefusal}
 use Rattle.judging.specs.Judged.{acceptance}
 use Rattle.checker.specs.Checked.{refusal, checked}
 use Rattle.checker.specs.declared.Answer.TheVariants.{Accepted, Refused}
@@ -43,7 +43,7 @@ module _ (file buffer : List ℕ) where
       let few = le-ltb (length buffer) answer_length h in
       (rw (few, check_code, e), rw (few, check_filled, e) (stored (acceptance r) buffer h))
 
-  pub refused : (r : Refusal) → checked file ≡ Refused r → answer_length ≤ length buffer →
+  pub refused : (r : PaperRefusal) → checked file ≡ Refused r → answer_length ≤ length buffer →
       (0 ≡ check_code file buffer) × (set (set buffer 0 r.number) 1 r.line ≡ check_filled file buffer)
   unfolding check_code check_filled store
   refused r e h =

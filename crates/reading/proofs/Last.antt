@@ -1,4 +1,5 @@
 -- The lines behind the 300 lines: where they have led, the report ends.
+use Rattle.std.specs.Prelude.{Ok, Err}
 use Prim.Native.Nat.{ℕ, ◌≤◌, ◌<◌}
 use mathlib.Core.Path.{◌≡◌, sym, ◌∙◌}
 use mathlib.Core.List.{List}
@@ -9,13 +10,11 @@ use Rattle.lines.specs.declared.Period.{Period}
 use Rattle.reading.specs.Reading.{stopped_at, runs_of, last_types, walk_due, walk_end, walk_last}
 use Rattle.reading.specs.Places.{facility_of, hour_lines_in}
 use Rattle.reading.specs.Passages.{PassesRuns, led}
-use Rattle.reading.specs.declared.Refusal.{Refusal}
+use Rattle.refusals.specs.Refusals.{PaperRefusal}
 use Rattle.reading.specs.declared.Report.{Report}
-use Rattle.reading.specs.declared.Reading.{Reading}
-use Rattle.reading.specs.declared.Reading.TheVariants.{Clean, Refused}
+use Rattle.reading.specs.Reading.{Reading}
 use Rattle.reading.specs.declared.walk.Cursor.{Cursor}
-use Rattle.reading.specs.declared.walk.Passage.{Passage}
-use Rattle.reading.specs.declared.walk.Passage.TheVariants.{On, Stopped}
+use Rattle.reading.specs.Passages.{Passage}
 use Rattle.reading.proofs.Walking.{leads, end_over, end_done}
 
 module _ (file : List ℕ) (period : Period) (s : Shape) (line at : ℕ) where
@@ -33,12 +32,12 @@ module _ (file : List ℕ) (period : Period) (s : Shape) (line at : ℕ) where
         (λ after. walk_due (facility_of file) line (runs_of last_types (hour_lines_in file s.hours)) (lines (drop at file)) after)
         p.reads e (walk_end report)
 
-    pub last_stopped : (refusal : Refusal) → r ≡ Stopped refusal → read_last ≡ Refused refusal
+    pub last_stopped : (refusal : PaperRefusal) → r ≡ Err refusal → read_last ≡ Err refusal
     last_stopped refusal e = sym (last_led _ e)
 
-    module _ (end : Cursor) (e : r ≡ On end) where
+    module _ (end : Cursor) (e : r ≡ Ok end) where
       pub last_over : end.at < length file → read_last ≡ stopped_at 2 end.line
       last_over h = sym (last_led _ e) ∙ end_over report end.line file end.at h
 
-      pub last_done : length file ≤ end.at → read_last ≡ Clean report
+      pub last_done : length file ≤ end.at → read_last ≡ Ok report
       last_done h = sym (last_led _ e) ∙ end_done report end.line file end.at h

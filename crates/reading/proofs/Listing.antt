@@ -1,4 +1,5 @@
 -- The walk over the 300 lines, one line further: what is left from here is what the whole is, and the hours rise.
+use Rattle.std.specs.Prelude.{Ok}
 use Prim.Native.Nat.{ℕ, ◌+◌, ◌≤◌, ◌<◌}
 use mathlib.Core.Path.{◌≡◌, refl, sym, ap, ◌∙◌}
 use mathlib.Core.List.{List, []}
@@ -19,14 +20,14 @@ use Rattle.lines.specs.LineFaults.{type_is, operation_line}
 use Rattle.lines.proofs.FaultLaws.{shape_length, dated_rises}
 use Rattle.lines.proofs.OperationLaws.{Said, said_operating, said_idle, operation_dated, operation_shape, operating_left}
 use Rattle.lines.specs.declared.Period.{Period}
-use Rattle.lines.specs.declared.operation.OperationLine.{OperationLine}
-use Rattle.lines.specs.declared.operation.OperationLine.TheVariants.{Operating, Idle, Faulty}
+use Rattle.lines.specs.LineFaults.{OperationSaid}
+use Rattle.lines.specs.declared.operation.OperationLine.TheVariants.{Operating, Idle}
 use Rattle.reading.specs.Reading.{stopped_at, After, end_operations, walk_operations, next_date}
 use Rattle.reading.specs.Places.{facility_of, hour_lines_in}
 use Rattle.reading.specs.Passages.{on_at, halted_at, end_passage, Here, PassesOperations}
 use Rattle.reading.specs.declared.walk.Cursor.{Cursor}
-use Rattle.reading.specs.declared.walk.Passage.{Passage}
-use Rattle.reading.specs.declared.Reading.{Reading}
+use Rattle.reading.specs.Passages.{Passage}
+use Rattle.reading.specs.Reading.{Reading}
 use Rattle.reading.proofs.Runs.{first_left, hour_lines_over}
 use Rattle.reading.proofs.Walking.{no_lines}
 
@@ -104,12 +105,12 @@ module _ (file : List ℕ) (period : Period) (n : ℕ) (start : Cursor) where
 
       module _ (t : type_is Operation (first_line (drop at file)) ≡ true) where
         -- what a 300 line decides
-        abbrev decided : OperationLine → After → Reading
+        abbrev decided : OperationSaid → After → Reading
         decided o after = elim o [
-          | Operating hour ↦
+          | Ok (Operating hour) ↦
               walk_operations (facility_of file) period (line + 1) (hour + 1) (drop 1 (drop k (hour_lines_in file n)))
               (lines (drop (at + (length (first_line (drop at file)) + 1)) file)) after
-          | Idle hour ↦
+          | Ok (Idle hour) ↦
               walk_operations (facility_of file) period (line + 1) (hour + 1) (drop k (hour_lines_in file n))
               (lines (drop (at + (length (first_line (drop at file)) + 1)) file)) after
           | Faulty number ↦ stopped_at number line
@@ -121,7 +122,7 @@ module _ (file : List ℕ) (period : Period) (n : ℕ) (start : Cursor) where
         unfolding walk_operations
         judged after = rw (lines_at_lem file at h, t, walk_operations)
 
-        told : (o : OperationLine) → operation_line (facility_of file) period from (next_date (drop k (hour_lines_in file n))) (first_line (drop at file)) ≡ o →
+        told : (o : OperationSaid) → operation_line (facility_of file) period from (next_date (drop k (hour_lines_in file n))) (first_line (drop at file)) ≡ o →
             (after : After) → decided o after ≡ all_listed after
         told o e after = sym (judged after ∙ ap (λ o. decided o after) e) ∙ w.left after
 
@@ -159,12 +160,12 @@ module _ (file : List ℕ) (period : Period) (n : ℕ) (start : Cursor) where
           }
 
         pub listing_idle : (hour : ℕ) → IsQuarter period.quarter →
-            operation_line (facility_of file) period from (next_date (drop k (hour_lines_in file n))) (first_line (drop at file)) ≡ Idle hour →
+            operation_line (facility_of file) period from (next_date (drop k (hour_lines_in file n))) (first_line (drop at file)) ≡ Ok (Idle hour) →
             Listing (at + (length_of Operation + 1)) (line + 1) (hour + 1) k
-        listing_idle hour q e = step hour false (said_idle (facility_of file) period from date here hour e) q k w.rank (told (Idle hour) e)
+        listing_idle hour q e = step hour false (said_idle (facility_of file) period from date here hour e) q k w.rank (told (Ok (Idle hour)) e)
 
         pub listing_operating : (hour : ℕ) → IsQuarter period.quarter →
-            operation_line (facility_of file) period from (next_date (drop k (hour_lines_in file n))) (first_line (drop at file)) ≡ Operating hour →
+            operation_line (facility_of file) period from (next_date (drop k (hour_lines_in file n))) (first_line (drop at file)) ≡ Ok (Operating hour) →
             Listing (at + (length_of Operation + 1)) (line + 1) (hour + 1) (k + 1)
         unfolding columns
         listing_operating hour q e =
@@ -172,7 +173,7 @@ module _ (file : List ℕ) (period : Period) (n : ℕ) (start : Cursor) where
             step hour true s q (k + 1) (some (operating_left (facility_of file) period from date here s.right s.operates) (dec_lt k n))
             (λ after. ap (λ (ds : List (List ℕ)). walk_operations (facility_of file) period (line + 1) (hour + 1) ds
             (lines (drop (at + (length here + 1)) file)) after) (sym (drop-drop 1 k (hour_lines_in file n)))
-            ∙ told (Operating hour) e after)
+            ∙ told (Ok (Operating hour)) e after)
           where
             some : (date ≡ [] → ⊥) → Dec (k < n) → k + 1 ≤ n
             some f (yes l) = omega arith

@@ -1,4 +1,5 @@
 -- The walk over the 200 lines, one line further: what is left from here is what the whole is, and the hours rise.
+use Rattle.std.specs.Prelude.{Ok, Err}
 use Prim.Native.Nat.{ℕ, suc, ◌+◌, ◌≤◌, ◌<◌}
 use mathlib.Core.Path.{◌≡◌, refl, sym, ap, ◌∙◌}
 use mathlib.Core.List.{List, [], ◌∷◌, ◌++◌}
@@ -15,10 +16,9 @@ use Rattle.lines.specs.LineFaults.{type_is, hour_in, hour_fault, hour_line}
 use Rattle.lines.proofs.FaultLaws.{shape_length, hour_shape, hour_rises, hour_said_lem}
 use Rattle.lines.specs.declared.Period.{Period}
 use Rattle.lines.specs.LineFaults.{HourLine}
-use Rattle.std.specs.Prelude.{Ok as At, Err as Faulty}
 use Rattle.reading.specs.Reading.{stopped_at, walk_later, walk_hours}
 use Rattle.reading.specs.Places.{facility_of, hour_line_in, hour_lines_in, Counted, hour_start}
-use Rattle.reading.specs.declared.Reading.{Reading}
+use Rattle.reading.specs.Reading.{Reading}
 use Rattle.reading.proofs.Walking.{no_lines}
 
 -- what the lines behind n 200 lines come to
@@ -69,10 +69,10 @@ module _ (file : List ℕ) (period : Period) (n from at : ℕ) (w : Rising file 
       -- what a 200 line decides
       abbrev after : HourLine → Reading
       after h = elim h [
-        | At hour ↦
+        | Ok hour ↦
             walk_hours (facility_of file) period (2 + n + 1) (hour + 1) (hour_lines_in file n ++ (first_line (drop at file) ∷ []))
             (lines (drop (at + (length (first_line (drop at file)) + 1)) file))
-        | Faulty number ↦ stopped_at number (2 + n)
+        | Err number ↦ stopped_at number (2 + n)
       ]
 
       judged : walk_hours (facility_of file) period (2 + n) from (hour_lines_in file n) (lines (drop at file))
@@ -80,11 +80,11 @@ module _ (file : List ℕ) (period : Period) (n from at : ℕ) (w : Rising file 
       unfolding walk_hours
       judged = whole ∙ rw (t, walk_hours)
 
-      pub rising_found : (number : ℕ) → hour_line (facility_of file) period from (first_line (drop at file)) ≡ Faulty number →
+      pub rising_found : (number : ℕ) → hour_line (facility_of file) period from (first_line (drop at file)) ≡ Err number →
           stopped_at number (2 + n) ≡ hours_whole file period
       rising_found number e = sym (judged ∙ ap after e) ∙ w.left
 
-      module _ (hour : ℕ) (e : hour_line (facility_of file) period from (first_line (drop at file)) ≡ At hour) where
+      module _ (hour : ℕ) (e : hour_line (facility_of file) period from (first_line (drop at file)) ≡ Ok hour) where
         said : (hour_fault (facility_of file) period from (first_line (drop at file)) ≡ 0) × (hour_in period So2Concentration (first_line (drop at file)) ≡ hour)
         said = hour_said_lem (facility_of file) period from (first_line (drop at file)) hour e
 

@@ -1,4 +1,5 @@
 -- The start of a reading: the last byte of the file and its facility line.
+use Rattle.std.specs.Prelude.{Ok, Err}
 use Prim.Native.Nat.{ℕ, suc, ◌+◌, ◌-◌, ◌≤◌, ◌<◌}
 use mathlib.Core.Path.{◌≡◌, refl, sym, ap, subst, ◌∙◌}
 use mathlib.Core.List.{List, [], ◌∷◌}
@@ -16,11 +17,10 @@ use Rattle.lines.specs.LineFaults.{period_on, facility_fault, facility_line}
 use Rattle.lines.proofs.FaultLaws.{shape_length, facility_shape, facility_quarter, facility_said}
 use Rattle.lines.specs.declared.Period.{Period}
 use Rattle.lines.specs.LineFaults.{FacilityLine}
-use Rattle.std.specs.Prelude.{Ok as Of, Err as Faulty}
 use Rattle.reading.specs.CleanLaws.{ended_walked}
 use Rattle.reading.specs.Reading.{stopped_at, walk_hours, walk, read_of}
 use Rattle.reading.specs.Places.{facility_of, hour_start}
-use Rattle.reading.specs.declared.Reading.{Reading}
+use Rattle.reading.specs.Reading.{Reading}
 
 last_at : (l : List ℕ) → 0 < length l → last l ≡ get_or l (length l - 1) 0
 unfolding last
@@ -45,16 +45,16 @@ module _ (l : List ℕ) (h : 0 < length l) where
 
   -- what line 100 decides
   abbrev after : FacilityLine → Reading
-  after f = elim f [ Of period ↦ walk_hours (first_line l) period 2 0 [] (lines (drop (0 + (length (first_line l) + 1)) l)) | Faulty number ↦ stopped_at number 1 ]
+  after f = elim f [ Ok period ↦ walk_hours (first_line l) period 2 0 [] (lines (drop (0 + (length (first_line l) + 1)) l)) | Err number ↦ stopped_at number 1 ]
 
   started : walk (lines l) ≡ after (facility_line (first_line l))
   unfolding walk
   started = ap walk (lines_at_lem l 0 h)
 
-  pub walk_found : (number : ℕ) → facility_line (first_line l) ≡ Faulty number → stopped_at number 1 ≡ walk (lines l)
+  pub walk_found : (number : ℕ) → facility_line (first_line l) ≡ Err number → stopped_at number 1 ≡ walk (lines l)
   walk_found number e = sym (started ∙ ap after e)
 
-  module _ (period : Period) (e : facility_line (first_line l) ≡ Of period) where
+  module _ (period : Period) (e : facility_line (first_line l) ≡ Ok period) where
     said : (facility_fault (first_line l) ≡ 0) × (period_on (first_line l) ≡ period)
     said = facility_said (first_line l) period e
 

@@ -1,4 +1,5 @@
 -- The walk over the lines that are due, one line further: what is left from here is what the whole is.
+use Rattle.std.specs.Prelude.{Ok}
 use Prim.Native.Nat.{ℕ, zero, suc, ◌+◌, ◌≤◌, ◌<◌}
 use mathlib.Core.Path.{◌≡◌, refl, sym, ap, ◌∙◌}
 use mathlib.Core.List.{List, [], ◌∷◌, ◌++◌}
@@ -14,10 +15,9 @@ use Rattle.reading.specs.Reading.{stopped_at, run_of, runs_of, After, walk_due, 
 use Rattle.reading.specs.Places.{facility_of, hour_lines_in, hour_due}
 use Rattle.reading.specs.Passages.{Here, PassesRuns, led, on_at, halted_at}
 use Rattle.reading.specs.declared.walk.Cursor.{Cursor}
-use Rattle.reading.specs.declared.walk.Passage.{Passage}
+use Rattle.reading.specs.Passages.{Passage}
 use Rattle.reading.specs.declared.Report.{Report}
-use Rattle.reading.specs.declared.Reading.{Reading}
-use Rattle.reading.specs.declared.Reading.TheVariants.{Clean}
+use Rattle.reading.specs.Reading.{Reading}
 use Rattle.reading.proofs.Runs.{run_one, run_end, runs_one}
 
 pub no_lines : (file : List ℕ) (at : ℕ) → length file ≤ at → lines (drop at file) ≡ []
@@ -151,6 +151,6 @@ module _ (report : Report) (line : ℕ) (file : List ℕ) (at : ℕ) where
   unfolding walk_end
   end_over h = rw (lines_at_lem file at h)
 
-  pub end_done : length file ≤ at → walk_end report line (lines (drop at file)) ≡ Clean report
+  pub end_done : length file ≤ at → walk_end report line (lines (drop at file)) ≡ Ok report
   unfolding walk_end
   end_done h = rw (no_lines file at h)

@@ -1,5 +1,5 @@
 -- Walks of the lines that end well, and where each line of a right file stands.
-use Rattle.std.specs.Prelude.{ℕ, zero, suc, ◌+◌, ◌*◌, ◌≤◌, ◌<◌, refl, true, false, drop}
+use Rattle.std.specs.Prelude.{ℕ, zero, suc, ◌+◌, ◌*◌, ◌≤◌, ◌<◌, refl, true, false, drop, Ok}
 use Rattle.std.proofs.Math.Path.{◌≡◌, sym}
 use Rattle.std.proofs.Common.{subst, ◌∙◌, not-suc-le-zero, le_of_suc-le-suc, eq-eqb, drop_of_length-le}
 use mathlib.Core.List.{List, [], ◌∷◌, ◌++◌}
@@ -23,8 +23,7 @@ use Rattle.reading.specs.RightFile.{RightRun}
 use Rattle.reading.specs.Reading.{stopped_at, After, walk_due, walk_end, walk, read_of}
 use Rattle.reading.specs.Recorded.{idle}
 use Rattle.reading.specs.declared.Report.{Report}
-use Rattle.reading.specs.declared.Reading.{Reading}
-use Rattle.reading.specs.declared.Reading.TheVariants.{Clean}
+use Rattle.reading.specs.Reading.{Reading}
 
 -- the first lines are those that are due, without fault, and the rest follows
 abbrev pub Matches : List ℕ → List Due → List (List ℕ) → List (List ℕ) → Type 0
@@ -37,11 +36,11 @@ pub ended_walked : (file : List ℕ) → last file ≡ 10 → read_of file ≡ w
 unfolding read_of
 ended_walked file e = rw (eq-eqb (last file) 10 e, read_of)
 
-pub never_clean : {A : Type 0} (number line : ℕ) (r : Report) → stopped_at number line ≡ Clean r → A
+pub never_clean : {A : Type 0} (number line : ℕ) (r : Report) → stopped_at number line ≡ Ok r → A
 never_clean number line r e = absurd (let z : ◌≡◌ {A = ℕ} 0 1 = cc in omega arith)
 
 pub due_clean : (facility : List ℕ) (line : ℕ) (due : List Due) (ls : List (List ℕ)) (after : After) (r : Report) →
-    walk_due facility line due ls after ≡ Clean r → (rest : List (List ℕ)) × Matches facility due ls rest × (after (line + length due) rest ≡ Clean r)
+    walk_due facility line due ls after ≡ Ok r → (rest : List (List ℕ)) × Matches facility due ls rest × (after (line + length due) rest ≡ Ok r)
 unfolding walk_due
 due_clean facility line [] ls after r e = let z : line + 0 ≡ line = omega arith in (ls, refl, rw z e)
 due_clean facility line (d ∷ ds) [] after r e = never_clean 10 line r e
@@ -50,16 +49,16 @@ due_clean facility line (d ∷ ds) (l ∷ ls) after r e = go (due_fault facility
     next : Reading
     next = walk_due facility (line + 1) ds ls after
 
-    go : (f : ℕ) → due_fault facility d l ≡ f → elim f [ zero ↦ next | suc c ↦ stopped_at (suc c) line ] ≡ Clean r →
-        (next ≡ Clean r → (rest : List (List ℕ)) × Matches facility ds ls rest × (after (line + 1 + length ds) rest ≡ Clean r)) →
-        (rest : List (List ℕ)) × ((due_fault facility d l ≡ 0) × Matches facility ds ls rest) × (after (line + suc (length ds)) rest ≡ Clean r)
+    go : (f : ℕ) → due_fault facility d l ≡ f → elim f [ zero ↦ next | suc c ↦ stopped_at (suc c) line ] ≡ Ok r →
+        (next ≡ Ok r → (rest : List (List ℕ)) × Matches facility ds ls rest × (after (line + 1 + length ds) rest ≡ Ok r)) →
+        (rest : List (List ℕ)) × ((due_fault facility d l ≡ 0) × Matches facility ds ls rest) × (after (line + suc (length ds)) rest ≡ Ok r)
     go zero k w ih =
         let m = ih w in
         let z : line + 1 + length ds ≡ line + suc (length ds) = omega arith in
         (m.0, (k, m.1), rw z at m.2)
     go (suc c) k w ih = never_clean (suc c) line r w
 
-pub end_clean : (report : Report) (line : ℕ) (ls : List (List ℕ)) (r : Report) → walk_end report line ls ≡ Clean r → (ls ≡ []) × (r ≡ report)
+pub end_clean : (report : Report) (line : ℕ) (ls : List (List ℕ)) (r : Report) → walk_end report line ls ≡ Ok r → (ls ≡ []) × (r ≡ report)
 unfolding walk_end
 end_clean report line [] r e = (refl, cc)
 end_clean report line (l ∷ ls) r e = never_clean 2 line r e

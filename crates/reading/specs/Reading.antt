@@ -1,5 +1,5 @@
 -- What the line checks answer to a file: the first fault with its line, or the report's year, quarter and counts.
-use Rattle.std.specs.Prelude.{ℕ, zero, suc, ◌+◌, ◌-◌, List, [], ◌∷◌, ◌++◌, map, true, false, eqb, length, drop, get_or}
+use Rattle.std.specs.Prelude.{ℕ, Result, zero, suc, ◌+◌, ◌-◌, List, [], ◌∷◌, ◌++◌, map, true, false, eqb, length, drop, get_or, Ok, Err}
 use Rattle.layout.specs.Layout.{once_or_dated, record_of, types_between, later, shape_with}
 use Rattle.layout.specs.declared.RecordType.{RecordType}
 use Rattle.layout.specs.declared.RecordType.TheVariants.{So2Concentration, Operation}
@@ -7,15 +7,16 @@ use Rattle.layout.specs.declared.Shape.{Shape}
 use Rattle.lines.specs.Lines.{lines, last}
 use Rattle.lines.specs.LineFaults.{type_is, facility_line, date_on, hour_line, Due, due_of, due_fault, operation_line}
 use Rattle.lines.specs.declared.Period.{Period}
-use Rattle.std.specs.Prelude.{Ok as Of, Err as FaultyFacility}
-use Rattle.std.specs.Prelude.{Ok as At, Err as FaultyHour}
-use Rattle.lines.specs.declared.operation.OperationLine.TheVariants.{Operating, Idle, Faulty as FaultyOperation}
+use Rattle.lines.specs.declared.operation.OperationLine.TheVariants.{Operating, Idle}
 use Rattle.reading.specs.declared.Report.{Report}
-use Rattle.reading.specs.declared.Reading.{Reading}
-use Rattle.reading.specs.declared.Reading.TheVariants.{Clean, Refused}
+use Rattle.refusals.specs.Refusals.{PaperRefusal}
+
+-- what the report says of itself, or the refusal
+abbrev pub Reading : Type 0
+Reading = Result Report PaperRefusal
 
 abbrev pub stopped_at : ℕ → ℕ → Reading
-stopped_at number line = Refused (record { number = number; line = line })
+stopped_at number line = Err (record { number = number; line = line })
 
 -- the types of the lines that follow the 200 lines: those in front of the 300 lines, and those behind them
 
@@ -64,15 +65,15 @@ walk_operations facility period line from hours (l ∷ ls) after =
       | false ↦ end_operations 2 line hours (l ∷ ls) after
       | true ↦
           elim (operation_line facility period from (next_date hours) l) [
-            | Operating hour ↦ walk_operations facility period (line + 1) (hour + 1) (drop 1 hours) ls after
-            | Idle hour ↦ walk_operations facility period (line + 1) (hour + 1) hours ls after
-            | FaultyOperation number ↦ stopped_at number line
+            | Ok (Operating hour) ↦ walk_operations facility period (line + 1) (hour + 1) (drop 1 hours) ls after
+            | Ok (Idle hour) ↦ walk_operations facility period (line + 1) (hour + 1) hours ls after
+            | Err number ↦ stopped_at number line
           ]
     ]
 
 -- no line may be left
 unfoldable pub walk_end : Report → After
-walk_end report line [] = Clean report
+walk_end report line [] = Ok report
 walk_end report line (l ∷ ls) = stopped_at 2 line
 
 -- after the last 300 line of a report of this shape
@@ -97,14 +98,14 @@ walk_hours facility period line from hours (l ∷ ls) =
       | false ↦ walk_later facility period line hours (l ∷ ls)
       | true ↦
           elim (hour_line facility period from l) [
-            | At hour ↦ walk_hours facility period (line + 1) (hour + 1) (hours ++ (l ∷ [])) ls
-            | FaultyHour number ↦ stopped_at number line
+            | Ok hour ↦ walk_hours facility period (line + 1) (hour + 1) (hours ++ (l ∷ [])) ls
+            | Err number ↦ stopped_at number line
           ]
     ]
 
 unfoldable pub walk : List (List ℕ) → Reading
 walk [] = stopped_at 10 1
-walk (l ∷ ls) = elim (facility_line l) [ Of period ↦ walk_hours l period 2 0 [] ls | FaultyFacility number ↦ stopped_at number 1 ]
+walk (l ∷ ls) = elim (facility_line l) [ Ok period ↦ walk_hours l period 2 0 [] ls | Err number ↦ stopped_at number 1 ]
 
 unfoldable pub read_of : List ℕ → Reading
 read_of file = elim (eqb (last file) 10) [ true ↦ walk (lines file) | false ↦ stopped_at 1 0 ]

@@ -1,5 +1,5 @@
 -- The refusals of the line checks are those of Refused.antt, and no others.
-use Rattle.std.specs.Prelude.{ℕ, zero, suc, ◌+◌, ◌-◌, ◌≤◌, ◌≡◌, Bool, cond, eqb, length, take, drop, get_or}
+use Rattle.std.specs.Prelude.{ℕ, zero, suc, ◌+◌, ◌-◌, ◌≤◌, ◌≡◌, Bool, cond, eqb, length, take, drop, get_or, Ok, Err}
 use Rattle.std.proofs.Math.Path.{refl, sym}
 use Rattle.std.proofs.Common.{ap, subst, ◌∙◌, true≢false, inl, arith, add-one, length-append, eqb-true, ne_eqb}
 use mathlib.Core.List.{List, [], ◌∷◌, ◌++◌, append_assoc, append-nil}
@@ -26,11 +26,9 @@ use Rattle.lines.specs.Clauses.{facility_clauses, hour_clauses, due_clauses, lis
 use Rattle.lines.proofs.ClauseLaws.{facility_told, hour_told, due_told, listed_told, OfLines, values_numbers}
 use Rattle.lines.specs.declared.Period.{Period}
 use Rattle.lines.specs.LineFaults.{FacilityLine}
-use Rattle.std.specs.Prelude.{Ok as Of, Err as FaultyFacility}
 use Rattle.lines.specs.LineFaults.{HourLine}
-use Rattle.std.specs.Prelude.{Ok as At, Err as FaultyHour}
-use Rattle.lines.specs.declared.operation.OperationLine.{OperationLine}
-use Rattle.lines.specs.declared.operation.OperationLine.TheVariants.{Operating, Idle, Faulty as FaultyOperation}
+use Rattle.lines.specs.LineFaults.{OperationSaid}
+use Rattle.lines.specs.declared.operation.OperationLine.TheVariants.{Operating, Idle}
 use Rattle.reading.specs.Reading.{stopped_at, run_of, runs_of, After, walk_due, end_operations, next_date, walk_operations}
 use Rattle.reading.specs.Reading.{walk_end, walk_last, walk_listed, walk_later, walk_hours, walk, read_of}
 use Rattle.reading.specs.Refused.{HoursTo, DuesTo, OperationsTo, first_due, last_due, some_left, when_none, Expected, clauses_of, type_of, Comes, RefusedBy}
@@ -45,40 +43,39 @@ use Rattle.reading.specs.WalkLaws.{Other, hours_passed, early_passed, listed_pas
 use Rattle.reading.specs.RightFile.{RightFile}
 use Rattle.reading.specs.RightFileLaws.{right_read}
 use Rattle.reading.specs.declared.Report.{Report}
-use Rattle.reading.specs.declared.Refusal.{Refusal}
-use Rattle.reading.specs.declared.Reading.{Reading}
-use Rattle.reading.specs.declared.Reading.TheVariants.{Clean, Refused}
+use Rattle.refusals.specs.Refusals.{PaperRefusal}
+use Rattle.reading.specs.Reading.{Reading}
 
 -- a reading that is clean, or refuses by a row
 abbrev ByRow : List ℕ → Reading → Type 0
-ByRow file (Clean r) = Unit {0}
-ByRow file (Refused r) = RefusedBy file r.number r.line
+ByRow file (Ok r) = Unit {0}
+ByRow file (Err r) = RefusedBy file r.number r.line
 
 -- what a line with a fault says
-operation_faulty : (f : List ℕ) (p : Period) (from : ℕ) (date l : List ℕ) (number : ℕ) → operation_line f p from date l ≡ FaultyOperation number →
+operation_faulty : (f : List ℕ) (p : Period) (from : ℕ) (date l : List ℕ) (number : ℕ) → operation_line f p from date l ≡ Err number →
     FirstFails (listed_clauses f p from date l) number
 unfolding operation_line said_of
 operation_faulty f p from date l number e = go (operation_fault f p from date l) refl (operates l) e
   where
     go : (n : ℕ) → operation_fault f p from date l ≡ n → (b : Bool) →
-        said_of n (cond b (Operating (hour_in p Operation l)) (Idle (hour_in p Operation l))) ≡ FaultyOperation number →
+        said_of n (cond b (Operating (hour_in p Operation l)) (Idle (hour_in p Operation l))) ≡ Err number →
         FirstFails (listed_clauses f p from date l) number
     go zero k true w = absurd (let z : ◌≡◌ {A = ℕ} 0 1 = cc in omega arith)
     go zero k false w = absurd (let z : ◌≡◌ {A = ℕ} 0 1 = cc in omega arith)
     go (suc c) k b w = let n : suc c ≡ number = cc in subst (FirstFails (listed_clauses f p from date l)) n ((listed_told f p from date l).wrong c k)
 
-hour_faulty : (f : List ℕ) (p : Period) (from : ℕ) (l : List ℕ) (number : ℕ) → hour_line f p from l ≡ FaultyHour number →
+hour_faulty : (f : List ℕ) (p : Period) (from : ℕ) (l : List ℕ) (number : ℕ) → hour_line f p from l ≡ Err number →
     FirstFails (hour_clauses f p from l) number
 unfolding hour_line
 hour_faulty f p from l number e =
     let s = said_fault (hour_fault f p from l) (hour_in p So2Concentration l) number e in
     rw s.0 at (told_wrong (hour_fault f p from l) (hour_clauses f p from l) (hour_told f p from l) (λ z. s.1 (sym s.0 ∙ z)))
 
-facility_faulty : (l : List ℕ) (number : ℕ) → facility_line l ≡ FaultyFacility number → FirstFails (facility_clauses l) number
+facility_faulty : (l : List ℕ) (number : ℕ) → facility_line l ≡ Err number → FirstFails (facility_clauses l) number
 unfolding facility_line
 facility_faulty l number e = go (facility_fault l) refl e
   where
-    go : (n : ℕ) → facility_fault l ≡ n → elim n [ zero ↦ Of (period_on l) | suc c ↦ FaultyFacility (suc c) ] ≡ FaultyFacility number →
+    go : (n : ℕ) → facility_fault l ≡ n → elim n [ zero ↦ Ok (period_on l) | suc c ↦ Err (suc c) ] ≡ Err number →
         FirstFails (facility_clauses l) number
     go zero k w = absurd (let z : ◌≡◌ {A = ℕ} 0 1 = cc in omega arith)
     go (suc c) k w = let n : suc c ≡ number = cc in subst (FirstFails (facility_clauses l)) n ((facility_told l).wrong c k)
@@ -266,21 +263,21 @@ module _ (file : List ℕ) (ended : last file ≡ 10) where
               more : Before (f ∷ hours ++ firsts ++ (listed ++ (l ∷ []))) (line + 1) ls
               more = part_before (f ∷ hours ++ firsts) listed line l ls b
 
-              step : OperationLine → Reading
+              step : OperationSaid → Reading
               step x = elim x [
-                | Operating hr ↦ walk_operations f p (line + 1) (hr + 1) (drop 1 left) ls then
-                | Idle hr ↦ walk_operations f p (line + 1) (hr + 1) left ls then
-                | FaultyOperation number ↦ stopped_at number line
+                | Ok (Operating hr) ↦ walk_operations f p (line + 1) (hr + 1) (drop 1 left) ls then
+                | Ok (Idle hr) ↦ walk_operations f p (line + 1) (hr + 1) left ls then
+                | Err number ↦ stopped_at number line
               ]
 
-              go : (x : OperationLine) → operation_line f p from (next_date left) l ≡ x → type_is Operation l ≡ true →
+              go : (x : OperationSaid) → operation_line f p from (next_date left) l ≡ x → type_is Operation l ≡ true →
                   (Before (f ∷ hours ++ firsts ++ (listed ++ (l ∷ []))) (line + 1) ls → (hr : ℕ) (rest : List (List ℕ)) →
                   OperationsTo f p hours (listed ++ (l ∷ [])) hr rest → ByRow file (walk_operations f p (line + 1) hr rest ls then)) →
                   ByRow file (step x)
-              go (Operating hr) e own ih =
+              go (Ok (Operating hr)) e own ih =
                   rw (add-one hr) (ih more (suc hr) (drop 1 left) (operated_on listed left from hr l o (said_operating f p from (next_date left) l hr e)))
-              go (Idle hr) e own ih = rw (add-one hr) (ih more (suc hr) left (idled_on listed left from hr l o (said_idle f p from (next_date left) l hr e)))
-              go (FaultyOperation number) e own ih =
+              go (Ok (Idle hr)) e own ih = rw (add-one hr) (ih more (suc hr) left (idled_on listed left from hr l o (said_idle f p from (next_date left) l hr e)))
+              go (Err number) e own ih =
                   row_faulty _ line l ls b (some_left left) _ (a_listed f p from (due_date left)) number (comes listed left from o) y
                   (λ w. own) (operation_faulty f p from (due_date left) l number e)
 
@@ -317,16 +314,16 @@ module _ (file : List ℕ) (ended : last file ≡ 10) where
           (λ own. go (hour_line f p next l) refl own (λ hr m. hours_row ls (hours ++ (l ∷ [])) (suc hr) (line + 1) m (next_before (f ∷ hours) line l ls b)))
         where
           said : HourLine → Reading
-          said x = elim x [ At hr ↦ walk_hours f p (line + 1) (hr + 1) (hours ++ (l ∷ [])) ls | FaultyHour number ↦ stopped_at number line ]
+          said x = elim x [ Ok hr ↦ walk_hours f p (line + 1) (hr + 1) (hours ++ (l ∷ [])) ls | Err number ↦ stopped_at number line ]
 
           go : (x : HourLine) → hour_line f p next l ≡ x → type_is So2Concentration l ≡ true →
               ((hr : ℕ) → HoursTo f p (hours ++ (l ∷ [])) (suc hr) → ByRow file (walk_hours f p (line + 1) (suc hr) (hours ++ (l ∷ [])) ls)) →
               ByRow file (said x)
-          go (At hr) e own ih =
+          go (Ok hr) e own ih =
               let s = hour_said_lem f p next l hr e in
               let r = hour_right f p next l s.0 in
               rw (add-one hr) (ih hr (one_more hr l h (omega (arith, r.0, s.1)) (rw s.1 at r.1)))
-          go (FaultyHour number) e own ih =
+          go (Err number) e own ih =
               row_faulty (f ∷ hours) line l ls b false [] (an_hour f p next) number (hour f p hours next g h) tt (λ w. own)
               (hour_faulty f p next l number e)
 
@@ -341,11 +338,11 @@ module _ (file : List ℕ) (ended : last file ≡ 10) where
   walk_row (l ∷ ls) e = go (facility_line l) refl
     where
       go : (x : FacilityLine) → facility_line l ≡ x →
-          ByRow file (elim x [ Of period ↦ walk_hours l period 2 0 [] ls | FaultyFacility number ↦ stopped_at number 1 ])
-      go (Of period) k =
+          ByRow file (elim x [ Ok period ↦ walk_hours l period 2 0 [] ls | Err number ↦ stopped_at number 1 ])
+      go (Ok period) k =
           let s = facility_said l period k in
           hours_row l period (rw s.1 at (facility_right l s.0)) ls [] 0 2 no_hour (record { split = e; counted = refl })
-      go (FaultyFacility number) k =
+      go (Err number) k =
           row_faulty [] 1 l ls (record { split = e; counted = refl }) true [] the_facility number first tt (λ w. absurd (true≢false w))
           (facility_faulty l number k)
 
@@ -357,7 +354,7 @@ read_row file = go (eqb (last file) 10) refl
     go true e = walk_row file (eqb-true (last file) 10 e) (lines file) refl
     go false e = unended (eqb-false (last file) 10 e)
 
-pub refused_by : (file : List ℕ) (r : Refusal) → read_of file ≡ Refused r → RefusedBy file r.number r.line
+pub refused_by : (file : List ℕ) (r : PaperRefusal) → read_of file ≡ Err r → RefusedBy file r.number r.line
 refused_by file r e = rw e at (read_row file)
 
 -- from the rows to the walk
@@ -449,8 +446,8 @@ read_refused file a k (missing ended others e c) =
 pub refused_determined : (file : List ℕ) (a b k l : ℕ) → RefusedBy file a k → RefusedBy file b l → (a ≡ b) × (k ≡ l)
 refused_determined file a b k l r s =
     let e : stopped_at a k ≡ stopped_at b l = sym (read_refused file a k r) ∙ read_refused file b l s in
-    let same : ◌≡◌ {A = Refusal} (record { number = a; line = k }) (record { number = b; line = l }) = cc in
-    (ap (λ (x : Refusal). x.number) same, ap (λ (x : Refusal). x.line) same)
+    let same : ◌≡◌ {A = PaperRefusal} (record { number = a; line = k }) (record { number = b; line = l }) = cc in
+    (ap (λ (x : PaperRefusal). x.number) same, ap (λ (x : PaperRefusal). x.line) same)
 
 pub right_unrefused : (file : List ℕ) (r : Report) (a k : ℕ) → RightFile file r → RefusedBy file a k → ⊥
 right_unrefused file r a k x s = never_clean a k r (sym (read_refused file a k s) ∙ right_read file r x)

@@ -1,6 +1,6 @@
 -- The files without fault in their lines are those of RightFile.antt.
 use Prim.Native.Nat.{ℕ, suc, ◌+◌, ◌-◌, ◌≤◌}
-use Rattle.std.specs.Prelude.{◌≡◌, Bool, true, false, eqb, length, drop}
+use Rattle.std.specs.Prelude.{◌≡◌, Bool, true, false, eqb, length, drop, Ok, Err}
 use Rattle.std.proofs.Math.Path.{refl, ap}
 use Rattle.std.proofs.Common.{sym, ◌∙◌, add-one, eqb-true}
 use mathlib.Core.List.{List, [], ◌∷◌, ◌++◌, map, append_assoc, append-nil}
@@ -21,11 +21,9 @@ use Rattle.lines.proofs.RightLaws.{facility_right, hour_right, due_says, RightTi
 use Rattle.lines.proofs.RightLaws.RightTime.{runs, rests}
 use Rattle.lines.specs.declared.Period.{Period}
 use Rattle.lines.specs.LineFaults.{FacilityLine}
-use Rattle.std.specs.Prelude.{Ok as Of, Err as FaultyFacility}
 use Rattle.lines.specs.LineFaults.{HourLine}
-use Rattle.std.specs.Prelude.{Ok as At, Err as FaultyHour}
-use Rattle.lines.specs.declared.operation.OperationLine.{OperationLine}
-use Rattle.lines.specs.declared.operation.OperationLine.TheVariants.{Operating, Idle, Faulty as FaultyOperation}
+use Rattle.lines.specs.LineFaults.{OperationSaid}
+use Rattle.lines.specs.declared.operation.OperationLine.TheVariants.{Operating, Idle}
 use Rattle.reading.specs.Reading.{stopped_at, first_types, last_types, run_of, runs_of, After, end_operations, next_date, walk_operations}
 use Rattle.reading.specs.Reading.{walk_end, walk_last, walk_listed, walk_later, walk_hours, walk, read_of}
 use Rattle.reading.specs.CleanLaws.{Matches, ended_walked, never_clean, due_clean, end_clean}
@@ -37,8 +35,7 @@ use Rattle.reading.specs.Refused.OperationsTo.{none_listed, operated, idled}
 use Rattle.reading.specs.RightFile.{RightHours, RightRun, RightOperations, RightFile}
 use Rattle.reading.specs.RightFile.RightOperations.{done, operating, idling}
 use Rattle.reading.specs.declared.Report.{Report}
-use Rattle.reading.specs.declared.Reading.{Reading}
-use Rattle.reading.specs.declared.Reading.TheVariants.{Clean}
+use Rattle.reading.specs.Reading.{Reading}
 
 -- from the walk to the lines
 
@@ -73,12 +70,12 @@ module _ (f : List ℕ) where
       line : ℕ
       split : ls ≡ hours ++ left
       right : RightHours f p from hours
-      more : walk_later f p line (before ++ hours) left ≡ Clean r
+      more : walk_later f p line (before ++ hours) left ≡ Ok r
 
-    no_more : (line from : ℕ) (before ls : List (List ℕ)) → walk_later f p line before ls ≡ Clean r → Hours from before ls
+    no_more : (line from : ℕ) (before ls : List (List ℕ)) → walk_later f p line before ls ≡ Ok r → Hours from before ls
     no_more line from before ls w = record { hours = []; left = ls; line = line; split = refl; right = tt; more = rw (append-nil before) w }
 
-    split_hours : (ls : List (List ℕ)) (line from : ℕ) (before : List (List ℕ)) → walk_hours f p line from before ls ≡ Clean r → Hours from before ls
+    split_hours : (ls : List (List ℕ)) (line from : ℕ) (before : List (List ℕ)) → walk_hours f p line from before ls ≡ Ok r → Hours from before ls
     unfolding walk_hours
     split_hours [] line from before w = no_more line from before [] w
     split_hours (l ∷ ls) line from before w =
@@ -88,14 +85,14 @@ module _ (f : List ℕ) where
         next hour = walk_hours f p (line + 1) (hour + 1) (before ++ (l ∷ [])) ls
 
         said : HourLine → Reading
-        said h = elim h [ At hour ↦ next hour | FaultyHour number ↦ stopped_at number line ]
+        said h = elim h [ Ok hour ↦ next hour | Err number ↦ stopped_at number line ]
 
-        go : (t : Bool) → elim t [ false ↦ walk_later f p line before (l ∷ ls) | true ↦ said (hour_line f p from l) ] ≡ Clean r →
-            (h : HourLine) → hour_line f p from l ≡ h → ((hour : ℕ) → next hour ≡ Clean r → Hours (hour + 1) (before ++ (l ∷ [])) ls) →
+        go : (t : Bool) → elim t [ false ↦ walk_later f p line before (l ∷ ls) | true ↦ said (hour_line f p from l) ] ≡ Ok r →
+            (h : HourLine) → hour_line f p from l ≡ h → ((hour : ℕ) → next hour ≡ Ok r → Hours (hour + 1) (before ++ (l ∷ [])) ls) →
             Hours from before (l ∷ ls)
         go false v h g ih = no_more line from before (l ∷ ls) v
-        go true v (FaultyHour number) g ih = never_clean number line r (rw g at v)
-        go true v (At hour) g ih =
+        go true v (Err number) g ih = never_clean number line r (rw g at v)
+        go true v (Ok hour) g ih =
             let s = hour_said_lem f p from l hour g in
             let o = hour_right f p from l s.0 in
             let i = ih hour (rw g at v) in
@@ -115,9 +112,9 @@ module _ (f : List ℕ) where
         left : List (List ℕ)
         split : ls ≡ listed ++ left
         right : RightOperations f p from hours listed
-        more : after (line + length listed) left ≡ Clean r
+        more : after (line + length listed) left ≡ Ok r
 
-      none_left : (number line from : ℕ) (hours ls : List (List ℕ)) → end_operations number line hours ls after ≡ Clean r → Listed line from hours ls
+      none_left : (number line from : ℕ) (hours ls : List (List ℕ)) → end_operations number line hours ls after ≡ Ok r → Listed line from hours ls
       unfolding end_operations
       none_left number line from (h ∷ hs) ls w = never_clean number line r w
       none_left number line from [] ls w =
@@ -134,7 +131,7 @@ module _ (f : List ℕ) where
           (ls : List (List ℕ)) → RightOperations f p (suc hour) hours ls → RightOperations f p from hours (l ∷ ls)
       idling_on from hour l hours b o (rests i) ls m = idling hour b o i m
 
-      split_operations : (ls : List (List ℕ)) (line from : ℕ) (hours : List (List ℕ)) → walk_operations f p line from hours ls after ≡ Clean r →
+      split_operations : (ls : List (List ℕ)) (line from : ℕ) (hours : List (List ℕ)) → walk_operations f p line from hours ls after ≡ Ok r →
           Listed line from hours ls
       unfolding walk_operations
       split_operations [] line from hours w = none_left 10 line from hours [] w
@@ -142,11 +139,11 @@ module _ (f : List ℕ) where
           go (type_is Operation l) w (operation_line f p from (next_date hours) l) refl
           (λ hour left. split_operations ls (line + 1) (hour + 1) left)
         where
-          step : OperationLine → Reading
+          step : OperationSaid → Reading
           step o = elim o [
-            | Operating hour ↦ walk_operations f p (line + 1) (hour + 1) (drop 1 hours) ls after
-            | Idle hour ↦ walk_operations f p (line + 1) (hour + 1) hours ls after
-            | FaultyOperation number ↦ stopped_at number line
+            | Ok (Operating hour) ↦ walk_operations f p (line + 1) (hour + 1) (drop 1 hours) ls after
+            | Ok (Idle hour) ↦ walk_operations f p (line + 1) (hour + 1) hours ls after
+            | Err number ↦ stopped_at number line
           ]
 
           more_lines : (hour : ℕ) (b : Bool) (left : List (List ℕ)) → Said f p from (next_date hours) l hour b →
@@ -166,17 +163,17 @@ module _ (f : List ℕ) where
               }
 
           go : (t : Bool) →
-              elim t [ false ↦ end_operations 2 line hours (l ∷ ls) after | true ↦ step (operation_line f p from (next_date hours) l) ] ≡ Clean r →
-              (o : OperationLine) → operation_line f p from (next_date hours) l ≡ o →
-              ((hour : ℕ) (left : List (List ℕ)) → walk_operations f p (line + 1) (hour + 1) left ls after ≡ Clean r →
+              elim t [ false ↦ end_operations 2 line hours (l ∷ ls) after | true ↦ step (operation_line f p from (next_date hours) l) ] ≡ Ok r →
+              (o : OperationSaid) → operation_line f p from (next_date hours) l ≡ o →
+              ((hour : ℕ) (left : List (List ℕ)) → walk_operations f p (line + 1) (hour + 1) left ls after ≡ Ok r →
               Listed (line + 1) (hour + 1) left ls) →
               Listed line from hours (l ∷ ls)
           go false v o g ih = none_left 2 line from hours (l ∷ ls) v
-          go true v (FaultyOperation number) g ih = never_clean number line r (rw g at v)
-          go true v (Idle hour) g ih =
+          go true v (Err number) g ih = never_clean number line r (rw g at v)
+          go true v (Ok (Idle hour)) g ih =
               let s = said_idle f p from (next_date hours) l hour g in
               more_lines hour false hours s (idling_on from hour l hours) (ih hour hours (rw g at v))
-          go true v (Operating hour) g ih =
+          go true v (Ok (Operating hour)) g ih =
               let s = said_operating f p from (next_date hours) l hour g in
               more_lines hour true (drop 1 hours) s
               (λ b o t. operating_on from hour l hours b o t (operating_left f p from (next_date hours) l s.right s.operates))
@@ -251,11 +248,11 @@ module _ (f : List ℕ) (hours : List (List ℕ)) where
         right_co2 = c.right;
       }
 
-walk_right : (file : List ℕ) → last file ≡ 10 → (r : Report) → walk (lines file) ≡ Clean r → RightFile file r
+walk_right : (file : List ℕ) → last file ≡ 10 → (r : Report) → walk (lines file) ≡ Ok r → RightFile file r
 unfolding walk walk_later walk_listed walk_last
 walk_right file ended r w = start (lines file) refl w
   where
-    build : (f : List ℕ) (p : Period) → RightFacility f p → (ls : List (List ℕ)) → lines file ≡ f ∷ ls → walk_hours f p 2 0 [] ls ≡ Clean r → RightFile file r
+    build : (f : List ℕ) (p : Period) → RightFacility f p → (ls : List (List ℕ)) → lines file ≡ f ∷ ls → walk_hours f p 2 0 [] ls ≡ Ok r → RightFile file r
     build f p g ls e v =
         let h = split_hours f p r ls 2 0 [] v in
         let hours = h.hours in
@@ -301,22 +298,22 @@ walk_right file ended r w = start (lines file) refl w
         } in
         rw q.1 own
 
-    start : (ls : List (List ℕ)) → lines file ≡ ls → walk ls ≡ Clean r → RightFile file r
+    start : (ls : List (List ℕ)) → lines file ≡ ls → walk ls ≡ Ok r → RightFile file r
     start [] e v = never_clean 10 1 r v
     start (f ∷ ls) e v = go (facility_line f) refl v
       where
         go : (x : FacilityLine) → facility_line f ≡ x →
-            elim x [ Of period ↦ walk_hours f period 2 0 [] ls | FaultyFacility number ↦ stopped_at number 1 ] ≡ Clean r → RightFile file r
-        go (FaultyFacility number) g k = never_clean number 1 r k
-        go (Of period) g k =
+            elim x [ Ok period ↦ walk_hours f period 2 0 [] ls | Err number ↦ stopped_at number 1 ] ≡ Ok r → RightFile file r
+        go (Err number) g k = never_clean number 1 r k
+        go (Ok period) g k =
             let s = facility_said f period g in
             build f period (rw s.1 at (facility_right f s.0)) ls e k
 
-pub read_right : (file : List ℕ) (r : Report) → read_of file ≡ Clean r → RightFile file r
+pub read_right : (file : List ℕ) (r : Report) → read_of file ≡ Ok r → RightFile file r
 unfolding read_of
 read_right file r e = go (eqb (last file) 10) refl e
   where
-    go : (t : Bool) → eqb (last file) 10 ≡ t → elim t [ true ↦ walk (lines file) | false ↦ stopped_at 1 0 ] ≡ Clean r → RightFile file r
+    go : (t : Bool) → eqb (last file) 10 ≡ t → elim t [ true ↦ walk (lines file) | false ↦ stopped_at 1 0 ] ≡ Ok r → RightFile file r
     go true k w = walk_right file (eqb-true (last file) 10 k) r w
     go false k w = never_clean 1 0 r w
 
@@ -381,9 +378,9 @@ module _ (file : List ℕ) (r : Report) (x : RightFile file r) where
         right_lasts = simp append-nil (simp append_assoc at m);
       }
 
-  pub right_read : read_of file ≡ Clean r
+  pub right_read : read_of file ≡ Ok r
   unfolding walk_end right_complete
   right_read =
       let own : shape_with (length x.hours) (length x.operations) ≡ r.shape = rw (x.hour_count, x.operation_count) in
       ended_walked file x.ended ∙ ap walk (sym (append-nil (lines file))) ∙ complete_passed (lines file) [] right_complete
-      ∙ ap (λ (s : Shape). Clean (record { period = r.period; shape = s })) own
+      ∙ ap (λ (s : Shape). Ok (record { period = r.period; shape = s })) own

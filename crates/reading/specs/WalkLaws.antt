@@ -1,5 +1,5 @@
 -- The walk goes on behind right lines. Refused.antt says which lines are right as far as they go.
-use Rattle.std.specs.Prelude.{ℕ, suc, ◌+◌, ◌-◌, ◌≤◌, ◌≡◌, Bool, not, eqb, drop}
+use Rattle.std.specs.Prelude.{ℕ, suc, ◌+◌, ◌-◌, ◌≤◌, ◌≡◌, Bool, not, eqb, drop, Ok, Err}
 use Rattle.std.proofs.Math.Path.{refl, ap}
 use Rattle.std.proofs.Common.{sym, subst, ◌∙◌}
 use mathlib.Core.List.{List, [], ◌∷◌, ◌++◌, map, append_assoc, append-nil}
@@ -21,7 +21,7 @@ use Rattle.lines.specs.RightLine.{Headed, RightFacility, RightListed}
 use Rattle.lines.proofs.RightLaws.{right_type, right_facility, right_hour, says_due, RightTime, right_operation}
 use Rattle.lines.proofs.RightLaws.RightTime.{runs, rests}
 use Rattle.lines.specs.declared.Period.{Period}
-use Rattle.lines.specs.declared.operation.OperationLine.TheVariants.{Operating, Idle, Faulty as FaultyOperation}
+use Rattle.lines.specs.declared.operation.OperationLine.TheVariants.{Operating, Idle}
 use Rattle.reading.specs.Reading.{stopped_at, first_types, last_types, hours_due, run_of, runs_of, After, walk_due, end_operations, next_date, walk_operations}
 use Rattle.reading.specs.Reading.{walk_end, walk_last, walk_listed, walk_later, walk_hours, walk}
 use Rattle.reading.specs.Refused.{HoursTo, DuesTo, OperationsTo, first_due, last_due, Complete}
@@ -105,15 +105,15 @@ module _ (f : List ℕ) where
     unfolding walk_operations
     listed_walked b line from hour left rest l after h r t =
         let s = right_operation f p from (next_date left) l hour h r b t in
-        let said : operation_line f p from (next_date left) l ≡ cond b (Operating hour) (Idle hour) =
+        let said : operation_line f p from (next_date left) l ≡ Ok (cond b (Operating hour) (Idle hour)) =
         operation_said f p from (next_date left) l s.0 ∙ rw (s.2, s.1) in
         rw (headed_type Operation l r.headed, walk_operations, said) (go b)
       where
         go : (b : Bool) →
-            elim (cond b (Operating hour) (Idle hour)) [
-              | Operating hr ↦ walk_operations f p (line + 1) (hr + 1) (drop 1 left) rest after
-              | Idle hr ↦ walk_operations f p (line + 1) (hr + 1) left rest after
-              | FaultyOperation number ↦ stopped_at number line
+            elim (Ok (cond b (Operating hour) (Idle hour))) [
+              | Ok (Operating hr) ↦ walk_operations f p (line + 1) (hr + 1) (drop 1 left) rest after
+              | Ok (Idle hr) ↦ walk_operations f p (line + 1) (hr + 1) left rest after
+              | Err number ↦ stopped_at number line
             ]
             ≡ walk_operations f p (line + 1) (suc hour) (cond b (drop 1 left) left) rest after
         go true = rw (add-one hour)

@@ -103,6 +103,13 @@ pub enum ConvertRefusal {
 }
 
 impl Fault {
+    /// The refusal of a line for it.
+    pub fn at(self, line: usize) -> Refusal
+        ensures { (result.fault ≡ self) × (result.line ≡ line) }
+    {
+        Refusal { fault: self, line }
+    }
+
     pub fn number(self) -> u64
         ensures { result ≡ fault_number self }
     {

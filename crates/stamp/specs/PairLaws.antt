@@ -1,5 +1,5 @@
 -- A stamp read as four pairs of columns, YY, MM, DD and HH.
-use Rattle.std.specs.Prelude.{◌≡◌, ℕ, suc, ◌+◌, ◌-◌, ◌*◌, ◌/◌, ◌%◌, ◌^◌, ◌<◌, ◌≤◌, Bool, true, false, cond, List, [], ◌∷◌, length, take, drop, ◌==◌, nat_lt, slice_index, slice_index_or, refl}
+use Rattle.std.specs.Prelude.{◌≡◌, ℕ, suc, ◌+◌, ◌-◌, ◌*◌, ◌/◌, ◌%◌, ◌^◌, ◌<◌, ◌≤◌, Bool, true, false, cond, List, [], ◌∷◌, length, take, drop, ◌==◌, nat_lt, slice_index, slice_index_or, refl, None}
 use Rattle.std.proofs.Common.{sym, ap, ◌∙◌, mod-eq_of_lt, drop-cons}
 use native.Mathlib.Omega.{arith}
 use Rattle.std.proofs.Math.Decide.{dec_lt}
@@ -18,7 +18,6 @@ use Rattle.calendar.specs.Calendar.{IsQuarter, quarter_hour, LiesIn}
 use Rattle.calendar.specs.MonthLaws.{days_in_month_lem}
 use Rattle.calendar.specs.CalendarLaws.{outside}
 use Rattle.calendar.specs.Calendar.{QuarterHour}
-use Rattle.std.specs.Prelude.{None as Outside}
 use Rattle.stamp.specs.Stamp.{number_hour, field_hour, stamp_hour}
 use Rattle.stamp.specs.Pairs.{pair_width, pair_field}
 
@@ -123,15 +122,15 @@ four_pairs yy mm dd hh =
     cond (nat_lt yy 100) (cond (nat_lt mm 100) (cond (nat_lt dd 100) (cond (nat_lt hh 100) (Number v) Malformed) Malformed) Malformed) Malformed
 
 abbrev pub pairs_hour : ℕ → ℕ → ℕ → ℕ → ℕ → ℕ → QuarterHour
-pairs_hour year quarter yy mm dd hh = cond (yy == year % 100) (quarter_hour year quarter (record { month = mm; day = dd; hour = hh })) Outside
+pairs_hour year quarter yy mm dd hh = cond (yy == year % 100) (quarter_hour year quarter (record { month = mm; day = dd; hour = hh })) None
 
 module _ (year quarter : ℕ) (q : IsQuarter quarter) where
   no_hour_lem :
       (yy mm dd hh : ℕ) → (LiesIn year quarter (record { month = mm; day = dd; hour = hh }) → ⊥) →
-      Outside ≡ pairs_hour year quarter yy mm dd hh
+      None ≡ pairs_hour year quarter yy mm dd hh
   no_hour_lem yy mm dd hh n = go (yy == year % 100)
     where
-      go : (t : Bool) → Outside ≡ cond t (quarter_hour year quarter (record { month = mm; day = dd; hour = hh })) Outside
+      go : (t : Bool) → None ≡ cond t (quarter_hour year quarter (record { month = mm; day = dd; hour = hh })) None
       go true = sym (outside year quarter (record { month = mm; day = dd; hour = hh }) n)
       go false = refl
 

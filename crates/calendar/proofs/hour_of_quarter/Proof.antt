@@ -1,8 +1,8 @@
 -- `calendar::hour_of_quarter` is `quarter_hour`: each refusal is shown by the law `outside`, the answer by `inside`.
+use Rattle.std.specs.Prelude.{Some}
 use native.Mathlib.Omega.{arith}
 use mathlib.Core.Path.{sym, ap, ◌∙◌}
 use Prim.Native.Nat.{ℕ, ◌+◌, ◌≤◌}
-use Rattle.std.specs.Prelude.{Some as At}
 use Rattle.calendar.specs.Calendar.{days_before, hour_of_quarter}
 use Rattle.calendar.specs.MonthLaws.{month_length, days_before_lem}
 use Rattle.calendar.specs.CalendarLaws.{inside, outside}
@@ -63,7 +63,7 @@ returns-6 c =
     let f = started (measured c.before.before) in
     let d = f.before.args in
     let e = ap (λ (first : ℕ). days_before d.year first d.date.month) f.first_month-first.ensures in
-    ap At (omega arith) ∙ sym (inside d.year d.quarter d.date (omega arith))
+    ap Some (omega arith) ∙ sym (inside d.year d.quarter d.date (omega arith))
 
 pub hour_of_quarter_spec : {M : Type 1} → statement M
 hour_of_quarter_spec =

@@ -4,7 +4,7 @@ use mathlib.Core.List.{List}
 use Prim.Native.Nat.{ℕ}
 use Rattle.reading.specs.Reading.{read_of}
 use Rattle.reading.specs.RightFileLaws.{read_right}
-use Rattle.reading.specs.declared.Reading.TheVariants.{Clean}
+use Rattle.std.specs.Prelude.{Ok as Clean}
 use Rattle.checker.specs.Checked.{after_reading, checked}
 use Rattle.checker.proofs.JudgingLaws.{right_judgeable}
 use Rattle.checker.specs.Promise.{Promise}

@@ -1,4 +1,5 @@
 -- The lines behind the 200 lines: those in front of the 300 lines, and from there on.
+use Rattle.std.specs.Prelude.{Ok}
 use mathlib.Core.Path.{◌≡◌, subst, ◌∙◌}
 use Prim.Native.Nat.{◌+◌, ◌*◌}
 use native.Mathlib.Omega.{arith}
@@ -10,8 +11,7 @@ use Rattle.reading.specs.Reading.{first_types, runs_of, After, walk_due, walk_li
 use Rattle.reading.specs.Places.{facility_of, hour_start, hour_lines_in}
 use Rattle.reading.specs.Passages.{led, Here, HereOn}
 use Rattle.reading.specs.declared.walk.Cursor.{Cursor}
-use Rattle.reading.specs.declared.walk.Passage.{Passage}
-use Rattle.reading.specs.declared.walk.Passage.TheVariants.{On}
+use Rattle.reading.specs.Passages.{Passage}
 use Rattle.reading.proofs.Walking.{leads}
 use borrow.Author.Rules.{rules}
 use Rattle.reading.proofs.walk.walk_later.Statement.{statement}
@@ -27,7 +27,7 @@ passed c = c.before
 abbrev next : tie.In-On → Cursor
 next c = c.in-On.next
 
-on : (c : tie.In-On) → (passed c).walk_runs-hours.result ≡ On (next c)
+on : (c : tie.In-On) → (passed c).walk_runs-hours.result ≡ Ok (next c)
 on c = c.in-On.is
 
 here : (c : tie.In-On) → Here (start (passed c)).args.file.now (next c)
@@ -79,7 +79,7 @@ returns : tie.Need-returns-in-Stopped
 returns c = whole c.before _ c.in-Stopped.is
 
 returns-2 : tie.Need-returns-in-On
-returns-2 c = let k = c.before in c.walk_listed.ensures ∙ whole (passed k) (On (next k)) (on k)
+returns-2 c = let k = c.before in c.walk_listed.ensures ∙ whole (passed k) (Ok (next k)) (on k)
 
 pub walk_later_spec : {M : Type 1} → statement M
 walk_later_spec =

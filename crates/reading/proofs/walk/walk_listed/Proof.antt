@@ -1,4 +1,5 @@
 -- The lines behind the 220 lines: the 300 lines, as many as the line has grown, and those behind them.
+use Rattle.std.specs.Prelude.{Ok}
 use mathlib.Core.Path.{◌≡◌, sym, ap, subst, ◌∙◌}
 use Prim.Native.Nat.{ℕ, ◌-◌}
 use lib.ListN.{length, drop}
@@ -8,8 +9,7 @@ use Rattle.reading.specs.Reading.{After, walk_operations, walk_last, walk_listed
 use Rattle.reading.specs.Places.{facility_of, hour_lines_in}
 use Rattle.reading.specs.Passages.{led, Here, HereOn, FewOn}
 use Rattle.reading.specs.declared.walk.Cursor.{Cursor}
-use Rattle.reading.specs.declared.walk.Passage.{Passage}
-use Rattle.reading.specs.declared.walk.Passage.TheVariants.{On}
+use Rattle.reading.specs.Passages.{Passage}
 use Rattle.reading.specs.HourLineLaws.{hour_lines_length}
 use Rattle.reading.proofs.Walking.{leads}
 use borrow.Author.Rules.{rules}
@@ -26,10 +26,10 @@ passed c = c.before.before.before
 abbrev next : tie.After-struct_known-in-On-1 → Cursor
 next c = c.before.before.in-On.next
 
-on : (c : tie.After-struct_known-in-On-1) → (passed c).walk_operations-listed.result ≡ On (next c)
+on : (c : tie.After-struct_known-in-On-1) → (passed c).walk_operations-listed.result ≡ Ok (next c)
 on c = c.before.before.in-On.is
 
-few : (c : tie.After-struct_known-in-On-1) → FewOn (start (passed c)).args.start (On (next c))
+few : (c : tie.After-struct_known-in-On-1) → FewOn (start (passed c)).args.start (Ok (next c))
 few c = subst (FewOn (start (passed c)).args.start) (on c) (passed c).walk_operations-listed.ensures.few
 
 here : (c : tie.After-struct_known-in-On-1) → Here (start (passed c)).args.file.now (next c)
@@ -81,7 +81,7 @@ returns-2 c =
     c.walk_last.ensures
     ∙ ap (λ (n : ℕ). walk_last (facility_of a.file.now) a.period (shape_with n ((next k).line - a.start.line)) (next k).line
     (hour_lines_in a.file.now a.n) (lines (drop (next k).at a.file.now))) (sym (hour_lines_length a.file.now a.n))
-    ∙ whole (passed k) (On (next k)) (on k)
+    ∙ whole (passed k) (Ok (next k)) (on k)
 
 pub walk_listed_spec : {M : Type 1} → statement M
 walk_listed_spec =

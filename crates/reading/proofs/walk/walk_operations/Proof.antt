@@ -14,7 +14,7 @@ use Rattle.layout.specs.declared.RecordType.TheVariants.{Facility, Operation}
 use Rattle.lines.specs.Lines.{first_line}
 use Rattle.lines.specs.LineFaults.{type_is, operation_line}
 use Rattle.lines.specs.declared.Period.{Period}
-use Rattle.lines.specs.declared.operation.OperationLine.{OperationLine}
+use Rattle.lines.specs.LineFaults.{OperationSaid}
 use Rattle.reading.specs.Reading.{next_date}
 use Rattle.reading.specs.Places.{facility_of, hour_lines_in}
 use Rattle.reading.specs.declared.walk.Cursor.{Cursor}
@@ -93,7 +93,7 @@ type_tested c = c.type_is.ensures ∙ ap (λ (l : List ℕ). type_is Operation (
 right : (c : tie.After-operation_line-said invariant-loop decreases-loop) → type_is Operation (line (named c)) ≡ true
 right c = sym (type_tested (tried c)) ∙ not-false _ (listed (dated c)).if-not-type_is.false-raw
 
-told : (c : tie.After-operation_line-said invariant-loop decreases-loop) (o : OperationLine) → c.operation_line-said.result ≡ o →
+told : (c : tie.After-operation_line-said invariant-loop decreases-loop) (o : OperationSaid) → c.operation_line-said.result ≡ o →
     let l = named c in operation_line (facility_of (file l)) (period l) l.loop-at.from (date l) (line l) ≡ o
 told c o e =
     let l = named c in
