@@ -23,7 +23,7 @@ use Rattle.stamp.specs.StampLaws.{stamp_inside, stamp_below}
 use Rattle.exact.specs.Faults.{unless, or_zero, unless_zero}
 use Rattle.lines.specs.LineFaults.{FacilityLine}
 use Rattle.lines.specs.LineFaults.{type_is, shape_fault, stack_of, common_fault, field_fault, field_in, values_fault, digits_in, period_on}
-use Rattle.lines.specs.LineFaults.{FacilityLine, facility_fault, facility_line, rising_fault, date_on, hour_on, dated_fault, hour_said, hour_fault, hour_number, hour_in, hour_line}
+use Rattle.lines.specs.LineFaults.{facility_fault, facility_line, rising_fault, date_on, hour_on, dated_fault, hour_said, hour_fault, hour_number, hour_in, hour_line}
 use Rattle.lines.specs.LineFaults.{so2_fault, Due, date_fault, gas_fault, due_fault}
 use Rattle.lines.specs.FaultLaws.{ValuesFormed, ValuesRight, DueRight}
 use Rattle.lines.specs.declared.Period.{Period}
