@@ -1,5 +1,5 @@
 -- Laws that the proofs of this crate's functions share.
-pub mod Chains
+pub mod Told
 pub mod Shapes
 pub mod Values
 pub mod Answers

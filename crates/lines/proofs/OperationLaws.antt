@@ -2,7 +2,7 @@
 use Prim.Native.Nat.{ℕ, zero, suc}
 use Rattle.std.proofs.Math.Path.{◌≡◌, refl, ap}
 use Rattle.std.proofs.Common.{◌∙◌}
-use Rattle.std.specs.Prelude.{List, [], Bool, cond, ltb, length}
+use Rattle.std.specs.Prelude.{Ok, List, [], Bool, cond, ltb, length}
 use Rattle.std.proofs.Math.Bool.{true, false}
 use native.Mathlib.Omega.{arith}
 use borrow.Author.Tests.{ltb-true, lt-ltb}
@@ -103,8 +103,8 @@ module _ (facility : List ℕ) (period : Period) (from : ℕ) (date line : List 
     pub operates : operates line ≡ operating
 
   either_said : (b : Bool) → operates line ≡ b → (f : ℕ) → fault ≡ f → (at : ℕ) →
-      (said_of f (cond b (Operating hour) (Idle hour)) ≡ Operating at → Said at true)
-      × (said_of f (cond b (Operating hour) (Idle hour)) ≡ Idle at → Said at false)
+      (said_of f (cond b (Operating hour) (Idle hour)) ≡ Ok (Operating at) → Said at true)
+      × (said_of f (cond b (Operating hour) (Idle hour)) ≡ Ok (Idle at) → Said at false)
   unfolding said_of
   either_said true o zero e at =
       ((λ w. record { right = e; hour = cc; operates = o }), (λ w. absurd (let z : ◌≡◌ {A = ℕ} 0 1 = cc in omega arith)))
@@ -113,16 +113,16 @@ module _ (facility : List ℕ) (period : Period) (from : ℕ) (date line : List 
   either_said b o (suc c) e at =
       ((λ w. absurd (let z : ◌≡◌ {A = ℕ} 0 1 = cc in omega arith)), (λ w. absurd (let z : ◌≡◌ {A = ℕ} 0 1 = cc in omega arith)))
 
-  pub said_operating : (at : ℕ) → operation_line facility period from date line ≡ Operating at → Said at true
+  pub said_operating : (at : ℕ) → operation_line facility period from date line ≡ Ok (Operating at) → Said at true
   unfolding operation_line
   said_operating at = (either_said (operates line) refl fault refl at).0
 
-  pub said_idle : (at : ℕ) → operation_line facility period from date line ≡ Idle at → Said at false
+  pub said_idle : (at : ℕ) → operation_line facility period from date line ≡ Ok (Idle at) → Said at false
   unfolding operation_line
   said_idle at = (either_said (operates line) refl fault refl at).1
 
   -- and what has no fault, it says
-  pub operation_said : fault ≡ 0 → operation_line facility period from date line ≡ cond (operates line) (Operating hour) (Idle hour)
+  pub operation_said : fault ≡ 0 → operation_line facility period from date line ≡ Ok (cond (operates line) (Operating hour) (Idle hour))
   unfolding operation_line said_of
   operation_said e = ap (λ (f : ℕ). said_of f (cond (operates line) (Operating hour) (Idle hour))) e
 

@@ -1,14 +1,13 @@
 -- What the tests of a line that fits its type's picture come to, by the numbers of the type's row.
 use Rattle.std.proofs.Common.{◌≡◌, ℕ, ◌+◌, ◌-◌, ◌≤◌, List, length, take, true, sym, ◌∙◌}
-use Rattle.layout.specs.Layout.{record_of, row_of, length_of, date_column, date_width}
+use Rattle.layout.specs.Layout.{row_of, length_of, date_column, date_width}
 use Rattle.layout.specs.declared.Row.{Row}
 use Rattle.layout.specs.declared.RecordType.{RecordType}
 use Rattle.layout.specs.declared.RecordType.TheVariants.{So2Concentration, So2Mass}
 use Rattle.lines.specs.Lines.{first_line}
 use Rattle.lines.specs.LineFaults.{shape_fault, date_on, date_fault, gas_fault, due_of, due_fault}
 use Rattle.lines.specs.Pictured.{Pictured, NumbersIn, ranges_hold}
-use Rattle.lines.proofs.FaultLaws.{common_shape}
-use Rattle.lines.proofs.Chains.{later_of}
+use Rattle.lines.proofs.FaultLaws.{common_shape, right_due}
 use Rattle.lines.proofs.Pictures.{ranges_right}
 use Rattle.lines.proofs.Rows as rows
 
@@ -31,18 +30,13 @@ module _ (facility rest : List ℕ) (t : RecordType) (row : Row) (own : row ≡ 
     gas_room = rows.gas_room t row own rest fine hour ranked
 
     -- no fault of the date, none of GAS, and numbers of their ranges
-    pub right_line : (date gas : ℕ) → date ≡ date_fault row.date (date_on So2Concentration hour) (take row.length rest) → date ≡ 0 →
-        gas ≡ gas_fault row.gas hour (take row.length rest) → gas ≡ 0 → ranges_hold t (take row.length rest) ≡ true →
-        due_fault facility (due_of t hour) (first_line rest) ≡ 0
-    unfolding due_fault
-    right_line date gas date_told undated gas_told together ranged =
-        let line = take row.length rest in
-        let undated_line : date_fault (date_column t) (date_on So2Concentration hour) (first_line rest) ≡ 0 =
-        sym (rows.date_told t row own rest fine hour ranked) ∙ sym date_told ∙ undated in
-        let together_line : gas_fault (record_of t).gas hour (first_line rest) ≡ 0 =
-        sym (rows.gas_told t row own rest fine hour ranked) ∙ sym gas_told ∙ together in
-        let numbers : NumbersIn t line = rw (← rows.sized t row own) at fits.numbers in
-        let values = ranges_right t line line_long numbers ranged in
-        sym
-        (later_of _ _ _ fits.common
-        (later_of _ _ _ undated_line (later_of _ _ _ together_line (sym (rw (rows.known t row own rest fine) values)))))
+    pub right_line : date_fault row.date (date_on So2Concentration hour) (take row.length rest) ≡ 0 → gas_fault row.gas hour (take row.length rest) ≡ 0 →
+        ranges_hold t (take row.length rest) ≡ true → due_fault facility (due_of t hour) (first_line rest) ≡ 0
+    right_line undated together ranged =
+        let numbers : NumbersIn t (take row.length rest) = rw (← rows.sized t row own) at fits.numbers in
+        right_due facility (due_of t hour) (first_line rest) (record {
+          common = fits.common;
+          date = sym (rows.date_told t row own rest fine hour ranked) ∙ undated;
+          gas = sym (rows.gas_told t row own rest fine hour ranked) ∙ together;
+          values = rw (rows.known t row own rest fine) (ranges_right t (take row.length rest) line_long numbers ranged);
+        })

@@ -27,6 +27,7 @@ pub struct Period {
 }
 
 // Line 100.
+#[tactic(auto, using(crate::proofs::Answers::facility_tests), unfolding(columns::specs::Columns::columns))]
 pub fn facility_line(rest: &[u8]) -> Result<Period, Fault>
     ensures { told fault_number result ≡ facility_line (first_line rest.now) }
 {
@@ -47,6 +48,7 @@ pub fn facility_line(rest: &[u8]) -> Result<Period, Fault>
 }
 
 // The hour of the quarter of a line that has no fault so far; it must be at least `from`.
+#[tactic(auto, using(crate::proofs::Shapes::line_length_lem, layout::specs::LayoutLaws::date_fits))]
 fn stamped_line(rest: &[u8], t: RecordType, period: Period, from: u64) -> Result<u64, Fault>
     requires { (shape_fault t (first_line rest.now) ≡ 0) × IsQuarter period.quarter × (1 ≤ date_column t) }
     ensures { told fault_number result ≡ stamped_line period t from (first_line rest.now) }
@@ -58,17 +60,13 @@ fn stamped_line(rest: &[u8], t: RecordType, period: Period, from: u64) -> Result
         period.quarter,
     );
     match hour {
-        Some(at) => {
-            if at < from {
-                return Err(Fault::Period);
-            }
-            Ok(at)
-        }
-        None => Err(Fault::Period),
+        Some(at) if from <= at => Ok(at),
+        _ => Err(Fault::Period),
     }
 }
 
 // A line of a type with a date, whose hour of the quarter must be at least `from`.
+#[tactic(auto, using(crate::proofs::Answers::dated_told, crate::proofs::Answers::stamped_dated, crate::proofs::FaultLaws::common_shape))]
 fn dated_line(
     facility: &[u8],
     rest: &[u8],

@@ -21,6 +21,7 @@ pub enum OperationLine {
 }
 
 // The heat of an idle hour, which has none.
+#[tactic(auto, unfolding(crate::specs::LineFaults::idle_fault))]
 fn try_idle(heat: Field) -> Result<(), Fault>
     ensures { fault_in fault_number result ≡ idle_fault heat }
 {
@@ -31,6 +32,7 @@ fn try_idle(heat: Field) -> Result<(), Fault>
 }
 
 // The date and the heat of an operating hour.
+#[tactic(auto, using(crate::proofs::Told::first_told, crate::proofs::Told::next_told), unfolding(crate::specs::LineFaults::operating_fault))]
 fn try_operating(line: &[u8], date: &[u8]) -> Result<(), Fault>
     requires { length line.now ≡ length_of RecordType.Operation }
     ensures { fault_in fault_number result ≡ operating_fault date.now line.now }
@@ -40,6 +42,7 @@ fn try_operating(line: &[u8], date: &[u8]) -> Result<(), Fault>
 }
 
 // A line whose hour is right: its time, and by it what follows.
+#[tactic(auto, using(crate::proofs::Answers::timeless))]
 fn timed_line(line: &[u8], date: &[u8], hour: u64) -> Result<OperationLine, Fault>
     requires { length line.now ≡ length_of RecordType.Operation }
     ensures { told fault_number result ≡ operation_of (timed_fault date.now line.now) hour line.now }
@@ -57,6 +60,7 @@ fn timed_line(line: &[u8], date: &[u8], hour: u64) -> Result<OperationLine, Faul
 }
 
 // A 300 line of an operating hour, of which its hour alone is left to try.
+#[tactic(auto, using(crate::proofs::Answers::operating_not, crate::proofs::Answers::operating_of))]
 fn operating_line(rest: &[u8], period: Period, from: u64) -> Result<OperationLine, Fault>
     requires { (shape_fault RecordType.Operation (first_line rest.now) ≡ 0) × IsQuarter period.quarter }
     ensures { told fault_number result ≡ operating_at period from (first_line rest.now) }
@@ -67,6 +71,7 @@ fn operating_line(rest: &[u8], period: Period, from: u64) -> Result<OperationLin
 
 // A 300 line, whose hour of the quarter must be at least `from`; `date` is that which it must have where it operates; `picture` is that of its type,
 // and looked at if asked to.
+#[tactic(auto, using(crate::proofs::Answers::stamped_operation, crate::proofs::FaultLaws::common_shape))]
 pub fn operation_line(
     facility: &[u8],
     rest: &[u8],
@@ -89,6 +94,7 @@ pub fn operation_line(
 }
 
 // The same, test by test.
+#[tactic(auto, using(crate::proofs::Answers::operation_undated, crate::proofs::Answers::dated_known, crate::proofs::Answers::operation_behind))]
 fn try_operation(
     facility: &[u8],
     rest: &[u8],
