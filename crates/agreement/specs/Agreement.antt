@@ -22,7 +22,7 @@ use Rattle.judging.specs.Behind.{SetsBehind}
 use Rattle.checker.specs.Checked.{answer_numbers, checked}
 use Rattle.checker.specs.Promise.{HonestlyRounded}
 use Rattle.checker.proofs.PromiseLaws.{hours_count, honest_checked}
-use Rattle.checker.specs.declared.Answer.TheVariants.{Accepted}
+use Rattle.std.specs.Prelude.{Ok as Accepted}
 use Rattle.sheet.specs.Sheet.{recorded_readings, sheet_hour_count, shape_of, sheet_hours}
 use Rattle.sheet.specs.declared.SheetHour.{SheetHour}
 use Rattle.writer.specs.Recorded.{ReportHour, recorded_hour, recorded_hours, report_hours}

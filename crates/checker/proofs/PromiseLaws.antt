@@ -27,8 +27,8 @@ use Rattle.std.specs.Prelude.{Ok as Clean, Err as Stopped}
 use Rattle.checker.specs.Checked.{refusal, answer_numbers, refused_at, line_named, answer_of, verdict_on, judged, after_reading, checked}
 use Rattle.checker.proofs.JudgingLaws.{right_judgeable, figure_named, file_judged}
 use Rattle.checker.specs.Promise.{HonestlyRounded, operating_lines, FailsAt, DiffersAt, Promise}
-use Rattle.checker.specs.declared.Answer.{Answer}
-use Rattle.checker.specs.declared.Answer.TheVariants.{Accepted, Refused}
+use Rattle.checker.specs.Checked.{Answer}
+use Rattle.std.specs.Prelude.{Ok as Accepted, Err as Refused}
 
 pub hours_count : (file : List ℕ) → length (hours_of file) ≡ hour_count file
 unfolding hours_of

@@ -25,7 +25,7 @@ use Rattle.checker.specs.Judging.{Judgeable}
 use Rattle.checker.proofs.JudgingLaws.{right_judgeable, type_named_lem, file_judged, hour_record_lem}
 use Rattle.checker.specs.Table.{InTable, of_check}
 use Rattle.checker.specs.Table.InTable.{accepted, of_lines, of_figure, of_total}
-use Rattle.checker.specs.declared.Answer.{Answer}
+use Rattle.checker.specs.Checked.{Answer}
 
 module _ (file : List ℕ) where
   abbrev Listed : Answer → Type 0

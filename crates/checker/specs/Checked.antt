@@ -8,8 +8,7 @@ use Rattle.reading.specs.Reading.{read_of}
 use Rattle.reading.specs.Recorded.{record_at, hours_of, totals_in}
 use Rattle.reading.specs.Reading.{Reading}
 use Rattle.std.specs.Prelude.{Ok as Clean, Err as Stopped}
-use Rattle.checker.specs.declared.Answer.{Answer}
-use Rattle.checker.specs.declared.Answer.TheVariants.{Accepted, Refused}
+use Rattle.std.specs.Prelude.{Ok as Accepted, Err as Refused}
 
 abbrev pub refusal : ℕ → ℕ → List ℕ
 refusal number line = number ∷ line ∷ []

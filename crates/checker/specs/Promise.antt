@@ -23,7 +23,7 @@ use Rattle.judging.specs.Judged.{number_for, type_for, Stated, stated_totals, ac
 use Rattle.judging.specs.Behind.{LieBehind, SetsBehind, exact_amount, reported, allowed}
 use Rattle.judging.specs.JudgedPromise.{FirstDiffers}
 use Rattle.checker.specs.Checked.{refusal, answer_numbers}
-use Rattle.checker.specs.declared.Answer.{Answer}
+use Rattle.checker.specs.Checked.{Answer}
 
 -- "honestly rounded from" (the paper)
 pub record HonestlyRounded (file : List ℕ) (sets : List Unrounded) : Type 0 where

@@ -6,93 +6,72 @@ ghost use Rattle.reading.specs.Places.{Standing};
 ghost use Rattle.checker.specs.Checked.{line_named, verdict_on, judged, checked};
 ghost use Rattle.checker.specs.Promise.{Promise};
 ghost use Rattle.checker.specs.Judging.{Judgeable, NamesRecord};
+ghost use Rattle.judging.specs.Judged.{failure_told, rank_told};
+ghost use Rattle.refusals.specs.Refusals.{fault_number, on_paper, told};
 
-use judging::{Failure, Verdict};
+use judging::Failure;
 use layout::{RecordType, Shape};
-use reading::{Reading, Refusal};
+use refusals::Refusal;
 use totals::{Quarter, Totals};
 
-// An acceptance, with the operating hours and totals, or a refusal.
-#[derive(Clone, Copy)]
-pub enum Answer {
-    Accepted(Quarter),
-    Refused(Refusal),
-}
-
 // The verdict on the hours and totals of a file of a shape whose lines are right. The hour pass carries the place of the next 300 line beside the rank.
-// It is abandoned at the first figure that fails; it yields that figure's number and its hour's rank from 1, or the number 0.
-fn verdict(file: &[u8], s: Shape) -> Verdict
+// It is abandoned at the first figure that fails, and yields that figure's refusal and its hour.
+fn verdict(file: &[u8], s: Shape) -> Result<Quarter, Failure>
     requires { Judgeable file.now s }
-    ensures { result ≡ verdict_on file.now }
+    ensures { told failure_told result ≡ verdict_on file.now }
 {
-    let hours = s.hours;
     let mut totals = Totals::none();
-    let mut k: usize = 0;
-    let mut from: usize = 0;
-    let failed = 'hours: loop {
-        if k == hours {
-            break 'hours Failure { number: 0, rank: 0 };
-        }
-        let at = recorded::operating_from(file, s, from);
-        let hour = recorded::hour(file, s, k, at);
-        let mut j: usize = 0;
-        while j < judging::FIGURES {
-            let figure = judging::figure_at(j);
-            let quantity = figure.quantity;
-            if !formulas::figure_passes(quantity, hour) {
-                break 'hours Failure {
-                    number: figure.number,
-                    rank: k + 1,
-                };
+    let mut from = 0;
+    let failed = 'hours: {
+        for k in 0..s.hours {
+            let at = recorded::operating_from(file, s, from);
+            let hour = recorded::hour(file, s, k, at);
+            for figure in judging::figures() {
+                if !formulas::figure_passes(figure.quantity, hour) {
+                    break 'hours Some(Failure {
+                        fault: figure.fault,
+                        hour: Some(k),
+                    });
+                }
             }
-            j += 1;
+            totals = totals.with_hour(hour.figures, hour.time);
+            from = at.place + 1;
         }
-        totals = totals.with_hour(hour.figures, hour.time);
-        k += 1;
-        from = at.place + 1;
+        None
     };
-    if failed.number != 0 {
-        return Verdict::Refused(failed);
+    match failed {
+        Some(failure) => Err(failure),
+        None => judging::compare(totals.quarter(), recorded::totals(file, s)),
     }
-    judging::compare(totals.quarter(), recorded::totals(file, s))
 }
 
-// The line of a failure: with rank 0 line 301, else the record of the type that its number names, in the hour of its rank.
+// The line of a failure: of a total line 301, else the record of the type that its fault names, in its hour.
 fn failure_line(file: &[u8], s: Shape, f: Failure) -> usize
-    requires { Standing file.now s × NamesRecord file.now f }
-    ensures { result ≡ line_named file.now f.number f.rank }
+    requires { Standing file.now s × NamesRecord file.now (failure_told f) }
+    ensures { result ≡ line_named file.now (fault_number f.fault) (rank_told f.hour) }
 {
-    if f.rank == 0 {
-        return layout::line_of(s, RecordType::QuarterTotals, 0);
+    match f.hour {
+        None => layout::line_of(s, RecordType::QuarterTotals, 0),
+        Some(k) => {
+            let t = judging::type_named(f.fault);
+            let place = recorded::place_of(file, s, t, k);
+            layout::line_of(s, t, place)
+        }
     }
-    let k = f.rank - 1;
-    let t = judging::type_named(f.number);
-    let place = recorded::place_of(file, s, t, k);
-    layout::line_of(s, t, place)
 }
 
-// The verdict as an answer: its rank becomes a line.
-fn judge(file: &[u8], s: Shape) -> Answer
+// The verdict as an answer: its hour becomes a line.
+fn judge(file: &[u8], s: Shape) -> Result<Quarter, Refusal>
     requires { Judgeable file.now s }
-    ensures { result ≡ judged file.now }
+    ensures { told on_paper result ≡ judged file.now }
 {
-    let said = verdict(file, s);
-    match said {
-        Verdict::Accepted(formed) => Answer::Accepted(formed),
-        Verdict::Refused(failure) => Answer::Refused(Refusal {
-            number: failure.number,
-            line: failure_line(file, s, failure),
-        }),
-    }
+    verdict(file, s).map_err(|failure| failure.fault.at(failure_line(file, s, failure)))
 }
 
-// What the check answers to a file.
-pub fn check(file: &[u8]) -> Answer
-    ensures { (result ≡ checked file.now) × Promise file.now result }
+// What the check answers to a file: an acceptance, with the operating hours and totals, or a refusal.
+pub fn check(file: &[u8]) -> Result<Quarter, Refusal>
+    ensures { (told on_paper result ≡ checked file.now) × Promise file.now (told on_paper result) }
 {
-    let reading = reading::read(file);
-    match reading {
-        Reading::Refused(refusal) => Answer::Refused(refusal),
-        Reading::Clean(report) => judge(file, report.shape),
-    }
+    let report = reading::read(file)?;
+    judge(file, report.shape)
 }

@@ -7,7 +7,7 @@ use Rattle.reading.specs.Reading.{read_of}
 use Rattle.checker.specs.Checked.{refused_at, after_reading, checked}
 use Rattle.checker.proofs.Examples.{worked_hour, answers}
 use Rattle.checker.proofs.PromiseLaws.{accepts}
-use Rattle.checker.specs.declared.Answer.TheVariants.{Accepted}
+use Rattle.std.specs.Prelude.{Ok as Accepted}
 use Rattle.annual.specs.Joined.{all_zeros, follows, sums_fit, joined_of}
 use Rattle.writer.proofs.Examples.{stack, worked_sheet, worked, worked_written}
 use Rattle.conversion.specs.Conversion.{each_word, conversion_refusal, recoded_from, converted, conversion_answer, converted_number}

@@ -10,7 +10,7 @@ use Rattle.totals.specs.declared.Quarter.{Quarter}
 use Rattle.refusals.specs.Refusals.{PaperRefusal}
 use Rattle.judging.specs.Judged.{acceptance}
 use Rattle.checker.specs.Checked.{refusal, checked}
-use Rattle.checker.specs.declared.Answer.TheVariants.{Accepted, Refused}
+use Rattle.std.specs.Prelude.{Ok as Accepted, Err as Refused}
 use Rattle.writer.specs.Written.{written_number, answered, buffered}
 use Rattle.edr_c.specs.Boundary.{filled, answer_length, check_code, check_filled, write_code, write_filled}
 

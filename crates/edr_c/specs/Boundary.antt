@@ -2,8 +2,8 @@
 use Rattle.std.specs.Prelude.{ℕ, List, ◌++◌, Bool, true, false, ◌||◌, eqb, ltb, length, get_or, drop}
 use Rattle.layout.specs.Layout.{stack_width}
 use Rattle.checker.specs.Checked.{answer_numbers, checked}
-use Rattle.checker.specs.declared.Answer.{Answer}
-use Rattle.checker.specs.declared.Answer.TheVariants.{Accepted, Refused}
+use Rattle.checker.specs.Checked.{Answer}
+use Rattle.std.specs.Prelude.{Ok as Accepted, Err as Refused}
 use Rattle.totals.specs.declared.Quarter.{Quarter}
 use Rattle.annual.specs.Joined.{joined_of, year_numbers}
 use Rattle.annual.specs.declared.YearToDate.{YearToDate}

@@ -3,7 +3,7 @@ use mathlib.Core.Path.{◌≡◌, refl}
 use mathlib.Core.List.{[], ◌∷◌, map}
 use Rattle.columns.specs.Written.{digits_of}
 use Rattle.checker.specs.Checked.{refused_at}
-use Rattle.checker.specs.declared.Answer.TheVariants.{Accepted}
+use Rattle.std.specs.Prelude.{Ok as Accepted}
 use Rattle.printing.specs.Printed.{digit_count_in, decimal_of, all_spaced, printed_line, printed}
 
 -- "accepted 1 2 684 6667 358 1"

@@ -2,8 +2,8 @@
 use Rattle.std.specs.Prelude.{ℕ, zero, suc, ◌+◌, ◌*◌, ◌/◌, List, [], ◌∷◌, ◌++◌, true, false, ltb}
 use Rattle.columns.specs.Written.{digits_of}
 use Rattle.checker.specs.Checked.{answer_numbers}
-use Rattle.checker.specs.declared.Answer.{Answer}
-use Rattle.checker.specs.declared.Answer.TheVariants.{Accepted, Refused}
+use Rattle.checker.specs.Checked.{Answer}
+use Rattle.std.specs.Prelude.{Ok as Accepted, Err as Refused}
 
 -- how many digits a number has that are no needless zeros, if so many steps suffice
 unfoldable pub digit_count_in : ℕ → ℕ → ℕ

@@ -5,8 +5,10 @@ ghost use Rattle.std.specs.Prelude.{◌≡◌, ◌+◌, ◌≤◌, length};
 ghost use Rattle.columns.specs.Columns.{put};
 ghost use Rattle.printing.specs.Printed.{digit_count, spaced, printed_line, printed, longest_line};
 ghost use Rattle.printing.specs.Room.{NumberRoom, LineRoom};
+ghost use Rattle.refusals.specs.Refusals.{on_paper, told};
 
-use checker::Answer;
+use refusals::Refusal;
+use totals::Quarter;
 
 // The longest line: a word of eight letters, six spaces and numbers of 20 digits, and byte 10.
 pub const LONGEST_LINE: usize = 8 + 6 * 21 + 1;
@@ -52,12 +54,13 @@ pub fn print_line(line: &mut [u8], word: &[u8], numbers: &[u64]) -> usize
 }
 
 // Returns the length of the line.
-pub fn print_answer(line: &mut [u8], answer: Answer) -> usize
+pub fn print_answer(line: &mut [u8], answer: Result<Quarter, Refusal>) -> usize
     requires { longest_line ≤ length line.old }
-    ensures { (result ≡ length (printed answer)) × (result ≤ longest_line) × (line.new ≡ put 1 (printed answer) line.old) }
+    ensures { (result ≡ length (printed (told on_paper answer))) × (result ≤ longest_line)
+        × (line.new ≡ put 1 (printed (told on_paper answer)) line.old) }
 {
     match answer {
-        Answer::Accepted(quarter) => print_line(
+        Ok(quarter) => print_line(
             line,
             b"accepted",
             &[
@@ -69,10 +72,10 @@ pub fn print_answer(line: &mut [u8], answer: Answer) -> usize
                 quarter.nox_tons,
             ],
         ),
-        Answer::Refused(refusal) => print_line(
+        Err(refusal) => print_line(
             line,
             b"refused",
-            &[refusal.number, refusal.line as u64],
+            &[refusal.fault.number(), refusal.line as u64],
         ),
     }
 }

@@ -1,5 +1,5 @@
 -- The walk over the 300 lines, one line further: what is left from here is what the whole is, and the hours rise.
-use Rattle.std.specs.Prelude.{Ok}
+use Rattle.std.specs.Prelude.{Ok, Err}
 use Prim.Native.Nat.{ℕ, ◌+◌, ◌≤◌, ◌<◌}
 use mathlib.Core.Path.{◌≡◌, refl, sym, ap, ◌∙◌}
 use mathlib.Core.List.{List, []}
@@ -113,7 +113,7 @@ module _ (file : List ℕ) (period : Period) (n : ℕ) (start : Cursor) where
           | Ok (Idle hour) ↦
               walk_operations (facility_of file) period (line + 1) (hour + 1) (drop k (hour_lines_in file n))
               (lines (drop (at + (length (first_line (drop at file)) + 1)) file)) after
-          | Faulty number ↦ stopped_at number line
+          | Err number ↦ stopped_at number line
         ]
 
         judged : (after : After) →
@@ -127,9 +127,9 @@ module _ (file : List ℕ) (period : Period) (n : ℕ) (start : Cursor) where
         told o e after = sym (judged after ∙ ap (λ o. decided o after) e) ∙ w.left after
 
         pub listing_found : (number : ℕ) (r : Passage) → r ≡ halted_at number line →
-            operation_line (facility_of file) period from (next_date (drop k (hour_lines_in file n))) (first_line (drop at file)) ≡ Faulty number →
+            operation_line (facility_of file) period from (next_date (drop k (hour_lines_in file n))) (first_line (drop at file)) ≡ Err number →
             PassesOperations file period n start r
-        listing_found number r e f = rw e (record { reads = λ after. told (Faulty number) f after; here = tt; few = tt })
+        listing_found number r e f = rw e (record { reads = λ after. told (Err number) f after; here = tt; few = tt })
 
         module _ (hour : ℕ) (b : Bool) (s : Said (facility_of file) period from date here hour b) (quarter : IsQuarter period.quarter) where
           long : length here ≡ length_of Operation

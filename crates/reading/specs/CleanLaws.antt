@@ -49,7 +49,7 @@ due_clean facility line (d ∷ ds) (l ∷ ls) after r e = go (due_fault facility
     next : Reading
     next = walk_due facility (line + 1) ds ls after
 
-    go : (f : ℕ) → due_fault facility d l ≡ f → elim f [ zero ↦ next | suc c ↦ stopped_at (suc c) line ] ≡ Ok r →
+    go : (f : ℕ) → due_fault facility d l ≡ f → ◌≡◌ {A = Reading} (elim f [ zero ↦ next | suc c ↦ stopped_at (suc c) line ]) (Ok r) →
         (next ≡ Ok r → (rest : List (List ℕ)) × Matches facility ds ls rest × (after (line + 1 + length ds) rest ≡ Ok r)) →
         (rest : List (List ℕ)) × ((due_fault facility d l ≡ 0) × Matches facility ds ls rest) × (after (line + suc (length ds)) rest ≡ Ok r)
     go zero k w ih =

@@ -75,7 +75,7 @@ facility_faulty : (l : List ℕ) (number : ℕ) → facility_line l ≡ Err numb
 unfolding facility_line
 facility_faulty l number e = go (facility_fault l) refl e
   where
-    go : (n : ℕ) → facility_fault l ≡ n → elim n [ zero ↦ Ok (period_on l) | suc c ↦ Err (suc c) ] ≡ Err number →
+    go : (n : ℕ) → facility_fault l ≡ n → ◌≡◌ {A = FacilityLine} (elim n [ zero ↦ Ok (period_on l) | suc c ↦ Err (suc c) ]) (Err number) →
         FirstFails (facility_clauses l) number
     go zero k w = absurd (let z : ◌≡◌ {A = ℕ} 0 1 = cc in omega arith)
     go (suc c) k w = let n : suc c ≡ number = cc in subst (FirstFails (facility_clauses l)) n ((facility_told l).wrong c k)

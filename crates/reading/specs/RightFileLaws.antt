@@ -87,7 +87,7 @@ module _ (f : List ℕ) where
         said : HourLine → Reading
         said h = elim h [ Ok hour ↦ next hour | Err number ↦ stopped_at number line ]
 
-        go : (t : Bool) → elim t [ false ↦ walk_later f p line before (l ∷ ls) | true ↦ said (hour_line f p from l) ] ≡ Ok r →
+        go : (t : Bool) → ◌≡◌ {A = Reading} (elim t [ false ↦ walk_later f p line before (l ∷ ls) | true ↦ said (hour_line f p from l) ]) (Ok r) →
             (h : HourLine) → hour_line f p from l ≡ h → ((hour : ℕ) → next hour ≡ Ok r → Hours (hour + 1) (before ++ (l ∷ [])) ls) →
             Hours from before (l ∷ ls)
         go false v h g ih = no_more line from before (l ∷ ls) v
@@ -163,7 +163,7 @@ module _ (f : List ℕ) where
               }
 
           go : (t : Bool) →
-              elim t [ false ↦ end_operations 2 line hours (l ∷ ls) after | true ↦ step (operation_line f p from (next_date hours) l) ] ≡ Ok r →
+              ◌≡◌ {A = Reading} (elim t [ false ↦ end_operations 2 line hours (l ∷ ls) after | true ↦ step (operation_line f p from (next_date hours) l) ]) (Ok r) →
               (o : OperationSaid) → operation_line f p from (next_date hours) l ≡ o →
               ((hour : ℕ) (left : List (List ℕ)) → walk_operations f p (line + 1) (hour + 1) left ls after ≡ Ok r →
               Listed (line + 1) (hour + 1) left ls) →
@@ -303,7 +303,7 @@ walk_right file ended r w = start (lines file) refl w
     start (f ∷ ls) e v = go (facility_line f) refl v
       where
         go : (x : FacilityLine) → facility_line f ≡ x →
-            elim x [ Ok period ↦ walk_hours f period 2 0 [] ls | Err number ↦ stopped_at number 1 ] ≡ Ok r → RightFile file r
+            ◌≡◌ {A = Reading} (elim x [ Ok period ↦ walk_hours f period 2 0 [] ls | Err number ↦ stopped_at number 1 ]) (Ok r) → RightFile file r
         go (Err number) g k = never_clean number 1 r k
         go (Ok period) g k =
             let s = facility_said f period g in
@@ -313,7 +313,7 @@ pub read_right : (file : List ℕ) (r : Report) → read_of file ≡ Ok r → Ri
 unfolding read_of
 read_right file r e = go (eqb (last file) 10) refl e
   where
-    go : (t : Bool) → eqb (last file) 10 ≡ t → elim t [ true ↦ walk (lines file) | false ↦ stopped_at 1 0 ] ≡ Ok r → RightFile file r
+    go : (t : Bool) → eqb (last file) 10 ≡ t → ◌≡◌ {A = Reading} (elim t [ true ↦ walk (lines file) | false ↦ stopped_at 1 0 ]) (Ok r) → RightFile file r
     go true k w = walk_right file (eqb-true (last file) 10 k) r w
     go false k w = never_clean 1 0 r w
 

@@ -9,7 +9,7 @@ ghost use Rattle.refusals.specs.Refusals.{on_paper, told};
 
 use layout::Shape;
 use lines::Period;
-use refusals::{Fault, Refusal};
+use refusals::{Fault, Refusal, at_line};
 
 // A report whose lines are right. Its operating hours are its 200 lines.
 #[derive(Clone, Copy)]
@@ -25,6 +25,6 @@ pub fn read(file: &[u8]) -> Result<Report, Refusal>
     if file.last() != Some(&10) {
         return Err(Fault::Unfinished.at(0));
     }
-    let period = lines::facility_line(file).map_err(|fault| fault.at(1))?;
+    let period = at_line(lines::facility_line(file), 1)?;
     walk::walk_hours(file, period)
 }

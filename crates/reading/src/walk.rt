@@ -12,7 +12,7 @@ use crate::Report;
 use layout::{RecordType, Shape};
 use lines::Period;
 use lines::operation::OperationLine;
-use refusals::{Fault, Refusal};
+use refusals::{Fault, Refusal, at_line};
 
 // How far the walk has come: the number of the next line, and where it starts, in bytes.
 #[derive(Clone, Copy)]
@@ -83,15 +83,15 @@ fn walk_runs(
             if file.len() <= at {
                 return Err(Fault::Missing.at(line));
             }
-            lines::try_due(
+            let due = lines::try_due(
                 facility,
                 hour_due(file, t, n, k),
                 &file[at..],
                 t,
                 row,
                 &picture,
-            )
-            .map_err(|fault| fault.at(line))?;
+            );
+            at_line(due, line)?;
             at += row.length + 1;
             line += 1;
         }
@@ -143,9 +143,8 @@ fn walk_operations(file: &[u8], period: Period, n: usize, start: Cursor) -> Resu
             date_left(file, n, rank),
             FEW <= rank,
             &picture,
-        )
-        .map_err(|fault| fault.at(line))?;
-        match said {
+        );
+        match at_line(said, line)? {
             OperationLine::Idle(idle) => {
                 from = idle + 1;
             }
@@ -230,7 +229,7 @@ pub fn walk_hours(file: &[u8], period: Period) -> Result<Report, Refusal>
         if !lines::shape::type_is(rest, RecordType::So2Concentration) {
             return walk_later(file, period, n);
         }
-        let hour = lines::hour_line(facility, rest, period, from).map_err(|fault| fault.at(2 + n))?;
+        let hour = at_line(lines::hour_line(facility, rest, period, from), 2 + n)?;
         from = hour + 1;
         n += 1;
         at += layout::SO2_BYTES;

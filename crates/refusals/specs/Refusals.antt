@@ -55,6 +55,10 @@ abbrev pub convert_number : ConvertRefusal → ℕ
 convert_number converting.Sheet = 31
 convert_number converting.Thousands = 50
 
+-- of a line, or of the whole file, line 0
+abbrev pub refusal_at : ℕ → Fault → Refusal
+refusal_at line fault = record { fault = fault; line = line }
+
 -- a refusal of a file as the paper has it: its number, and its line
 pub record PaperRefusal : Type 0 where
   pub number : ℕ

@@ -2,7 +2,7 @@
 #![tactic(auto)]
 
 ghost use Rattle.std.specs.Prelude.{◌≡◌};
-ghost use Rattle.refusals.specs.Refusals.{fault_number, write_number, join_number, recorder_number, convert_number};
+ghost use Rattle.refusals.specs.Refusals.{fault_number, write_number, join_number, recorder_number, convert_number, refusal_at, told};
 
 /// What the check refuses a file for.
 #[derive(Clone, Copy, Debug, PartialEq, Eq)]
@@ -102,10 +102,20 @@ pub enum ConvertRefusal {
     Thousands,
 }
 
+/// What is tried of a line, refused there.
+pub fn at_line<T: Drop>(tried: Result<T, Fault>, line: usize) -> Result<T, Refusal>
+    ensures { result ≡ told (refusal_at line) tried }
+{
+    match tried {
+        Ok(value) => Ok(value),
+        Err(fault) => Err(fault.at(line)),
+    }
+}
+
 impl Fault {
     /// The refusal of a line for it.
     pub fn at(self, line: usize) -> Refusal
-        ensures { (result.fault ≡ self) × (result.line ≡ line) }
+        ensures { result ≡ refusal_at line self }
     {
         Refusal { fault: self, line }
     }

@@ -9,7 +9,7 @@ use Rattle.checker.specs.Checked.{after_reading, checked}
 use Rattle.checker.proofs.JudgingLaws.{right_judgeable}
 use Rattle.checker.specs.Promise.{Promise}
 use Rattle.checker.proofs.PromiseLaws.{promise}
-use Rattle.checker.specs.declared.Answer.{Answer}
+use Rattle.checker.specs.Checked.{Answer}
 use borrow.Author.Rules.{rules}
 use Rattle.checker.proofs.check.Statement.{statement}
 use Rattle.checker.proofs.check.Tie as tie

@@ -2,7 +2,7 @@
 use mathlib.Core.Path.{◌∙◌, ap}
 use lib.ListN.{length}
 use Rattle.columns.specs.Columns.{put}
-use Rattle.checker.specs.declared.Answer.{Answer}
+use Rattle.checker.specs.Checked.{Answer}
 use Rattle.printing.specs.Printed.{printed}
 use borrow.Author.Rules.{rules}
 use Rattle.edr_check.proofs.answer_line.Statement.{statement}
