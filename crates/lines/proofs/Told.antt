@@ -1,7 +1,7 @@
 -- What a call that may refuse returns, beside its definition: a fault is told as its number, which is never 0.
-use Rattle.std.specs.Prelude.{Result, Ok, Err, is_err, IsErrAnd}
+use Rattle.std.specs.Prelude.{Result, Ok, Err, is_ok, IsErrAnd}
 use Rattle.std.proofs.lemmas.Result.{err_from_is_err_and}
-use Rattle.std.proofs.Common.{◌≡◌, ℕ, zero, suc, false, sym, ap, ◌∙◌, arith}
+use Rattle.std.proofs.Common.{◌≡◌, ℕ, zero, suc, true, sym, ap, ◌∙◌, arith}
 use Rattle.std.proofs.lemmas.Bool.{false≢true}
 use Rattle.exact.specs.Faults.{◌or_else◌, or_first, or_next}
 use Rattle.refusals.specs.Refusals.{fault_number, fault_in}
@@ -33,7 +33,7 @@ pub next_told : (f a rest : ℕ) → 0 ≡ a → f ≡ rest → f ≡ a or_else 
 next_told f a rest z e = e ∙ sym (or_next a rest (sym z))
 
 -- a call that is looked at only for whether it refuses
-pub none_told : {A : Type 0} (r : Result A Fault) (a : ℕ) → fault_in fault_number r ≡ a → false ≡ is_err r → a ≡ 0
+pub none_told : {A : Type 0} (r : Result A Fault) (a : ℕ) → fault_in fault_number r ≡ a → is_ok r ≡ true → a ≡ 0
 none_told (Ok x) a e h = sym e
 none_told (Err x) a e h = absurd (false≢true h)
 

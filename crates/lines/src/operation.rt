@@ -85,10 +85,8 @@ pub fn operation_line(
     requires picture_value { picture.now ≡ whole_picture RecordType.Operation }
     ensures { told fault_number result ≡ operation_line facility.now period from date.now (first_line rest.now) }
 {
-    if by_picture {
-        if picture::is_operating(facility, rest, date, picture) {
-            return operating_line(rest, period, from);
-        }
+    if by_picture && picture::is_operating(facility, rest, date, picture) {
+        return operating_line(rest, period, from);
     }
     try_operation(facility, rest, period, from, date)
 }

@@ -74,13 +74,9 @@ pub fn is_right(
         return false;
     }
     let line = &rest[..row.length];
-    if faults::try_ranked_date(line, hour, row.date).is_err() {
-        return false;
-    }
-    if gas::try_gas(line, hour, row.gas).is_err() {
-        return false;
-    }
-    in_ranges(line, t)
+    faults::try_ranked_date(line, hour, row.date).is_ok()
+        && gas::try_gas(line, hour, row.gas).is_ok()
+        && in_ranges(line, t)
 }
 
 // Whether what is left begins with a 300 line of this date that is at once seen to be an operating hour's, and right but for its hour. A line of another
@@ -94,11 +90,7 @@ pub fn is_operating(facility: &[u8], rest: &[u8], date: &[u8], picture: &[u8]) -
         return false;
     }
     let line = &rest[..layout::OPERATION_LENGTH];
-    if faults::try_date(line, date, layout::OPERATION_DATE).is_err() {
-        return false;
-    }
-    if !is_pictured(facility, rest, t, layout::OPERATION_LENGTH, picture) {
-        return false;
-    }
-    ranged(line, t, values::TIME_HOURS)
+    faults::try_date(line, date, layout::OPERATION_DATE).is_ok()
+        && is_pictured(facility, rest, t, layout::OPERATION_LENGTH, picture)
+        && ranged(line, t, values::TIME_HOURS)
 }
