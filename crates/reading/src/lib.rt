@@ -22,7 +22,10 @@ pub struct Report {
 pub fn read(file: &[u8]) -> Result<Report, Refusal>
     ensures { told on_paper result ≡ read_of file.now }
 {
-    if file.last() != Some(&10) {
+    let Some(last) = file.last() else {
+        return Err(Fault::Unfinished.at(0));
+    };
+    if *last != 10 {
         return Err(Fault::Unfinished.at(0));
     }
     let period = at_line(lines::facility_line(file), 1)?;

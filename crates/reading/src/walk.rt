@@ -144,7 +144,8 @@ fn walk_operations(file: &[u8], period: Period, n: usize, start: Cursor) -> Resu
             FEW <= rank,
             &picture,
         );
-        match at_line(said, line)? {
+        let operation = at_line(said, line)?;
+        match operation {
             OperationLine::Idle(idle) => {
                 from = idle + 1;
             }

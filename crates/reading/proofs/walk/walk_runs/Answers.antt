@@ -1,10 +1,9 @@
 -- With each line, what is left to do against what is due is what the whole was.
-use Rattle.std.specs.Prelude.{Err, Result}
-use Rattle.std.proofs.Common.{◌≡◌, refl, ℕ, List, ◌+◌, ◌-◌, ◌≤◌, ◌<◌, length, take, drop, sym, ap, ◌∙◌, arith}
+use Rattle.std.specs.Prelude.{Err}
+use Rattle.std.proofs.Common.{◌≡◌, refl, ℕ, List, ◌≤◌, ◌<◌, length, take, ap, arith}
 use lib.Seq.{length-take-le}
 use Rattle.columns.proofs.ColumnsLaws.{part_end}
 use Rattle.layout.specs.Layout.{length_of, order, type_at, count_of, shape}
-use Rattle.layout.specs.LayoutLaws.{length_most}
 use Rattle.layout.specs.declared.Row.{Row}
 use Rattle.layout.specs.declared.RecordType.{RecordType}
 use Rattle.layout.specs.declared.RecordType.TheVariants.{Facility}
@@ -12,11 +11,11 @@ use Rattle.refusals.specs.Refusals.{on_paper, fault_in, fault_number}
 use Rattle.refusals.proofs.There.{refused_there, some_there, none_there, exit_there}
 use Rattle.lines.specs.Lines.{first_line}
 use Rattle.lines.specs.LineFaults.{due_of, due_fault}
-use Rattle.reading.specs.Places.{facility_of, hour_lines_in, hour_due, Counted}
+use Rattle.reading.specs.Places.{facility_of, hour_lines_in, Counted}
 use Rattle.reading.specs.declared.walk.Cursor.{Cursor}
 use Rattle.reading.proofs.Runs.{runs_end, due_long}
 use Rattle.reading.proofs.Walking.{Walked, walked_start, walked_join, walked_type, walked_run}
-use Rattle.reading.proofs.Walking.{walked_missing, walked_found, walked_room, walked_next, runs_halted, runs_on}
+use Rattle.reading.proofs.Walking.{walked_missing, walked_found, walked_next, runs_halted, runs_on}
 use Rattle.reading.proofs.walk.walk_runs.Invariants.{due_from, due_at}
 use Rattle.reading.proofs.walk.walk_runs.Goals as goal
 
@@ -63,9 +62,10 @@ returns-then-file-at c =
 pub try_due-due-requires-clause-length_of_in_bounds : goal.try_due-due-requires-clause-length_of_in_bounds
 try_due-due-requires-clause-length_of_in_bounds c =
     let x = c.args in
-    let inside : c.loop-k.k < count_of (shape x.n) c.type_at-t.result = omega (arith, c.loop-k-test.true, c.count_of-count.ensures) in
-    (omega (arith, long x.file.now c.requires.0),
-     (λ d. rw c.hour_due.ensures (due_long x.file.now x.n c.loop-k.k c.requires.0 c.type_at-t.result inside d)))
+    let inside : c.loop-k.k < count_of (shape x.n) c.type_at-t.result = omega (arith, c.loop-k-test.true, c.count_of-count.ensures) in (
+      omega (arith, long x.file.now c.requires.0),
+      (λ d. rw c.hour_due.ensures (due_long x.file.now x.n c.loop-k.k c.requires.0 c.type_at-t.result inside d)),
+    )
 
 pub returns-in_err-at_line : goal.returns-in_err-at_line
 returns-in_err-at_line c =
