@@ -17,7 +17,7 @@ use Rattle.totals.specs.declared.Quarter.{Quarter}
 use Rattle.layout.specs.declared.Shape.{Shape}
 use Rattle.judging.specs.Judged.{figure_count, figure_at, Tried, figures_tried, failed_at, failed_or, failure_of, judged_hours, compared_totals, judged_quarter}
 use Rattle.judging.proofs.JudgedLaws.{drop_figure, figure_some}
-use Rattle.judging.specs.declared.Verdict.{Verdict}
+use Rattle.judging.specs.Judged.{Verdict}
 use Rattle.reading.specs.Recorded.{hour_count, hour_at, hours_of, totals_in}
 use Rattle.reading.specs.Places.{Standing, operating_place}
 use Rattle.reading.specs.RecordLaws.{hours_standing}

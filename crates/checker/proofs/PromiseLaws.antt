@@ -12,8 +12,8 @@ use Rattle.totals.specs.declared.Quarter.{Quarter}
 use Rattle.judging.specs.Judged.{number_for, Stated, stated_totals, acceptance, failed_at}
 use Rattle.judging.specs.JudgedPromise.{DiffersFirst, JudgedPromise}
 use Rattle.judging.proofs.JudgedLaws.{each_figure, said_same_lem}
-use Rattle.judging.specs.declared.Verdict.{Verdict}
-use Rattle.judging.specs.declared.Verdict.TheVariants.{Accepted as Right, Refused as Failed}
+use Rattle.judging.specs.Judged.{Verdict}
+use Rattle.std.specs.Prelude.{Ok as Right, Err as Failed}
 use Rattle.lines.specs.Clauses.{of_line_checks}
 use Rattle.reading.specs.Reading.{read_of}
 use Rattle.reading.specs.Recorded.{record_at, hour_count, hour_at, hours_of, totals_in}

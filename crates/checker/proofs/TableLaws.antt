@@ -8,8 +8,8 @@ use Rattle.layout.specs.declared.RecordType.TheVariants.{QuarterTotals}
 use Rattle.judging.specs.Judged.{figures_tried, stated_totals}
 use Rattle.judging.specs.JudgedPromise.{OfRow}
 use Rattle.judging.specs.JudgedPromise.OfRow.{of_hour, of_quarter}
-use Rattle.judging.specs.declared.Verdict.{Verdict}
-use Rattle.judging.specs.declared.Verdict.TheVariants.{Accepted as Right, Refused as Failed}
+use Rattle.judging.specs.Judged.{Verdict}
+use Rattle.std.specs.Prelude.{Ok as Right, Err as Failed}
 use Rattle.reading.specs.Reading.{read_of}
 use Rattle.reading.specs.Recorded.{record_at, hour_count}
 use Rattle.reading.specs.RecordedLaws.{has_record}

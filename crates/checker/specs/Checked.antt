@@ -2,8 +2,8 @@
 use Rattle.std.specs.Prelude.{ℕ, zero, suc, List, [], ◌∷◌}
 use Rattle.layout.specs.declared.RecordType.TheVariants.{QuarterTotals}
 use Rattle.judging.specs.Judged.{acceptance, type_named, judged_quarter}
-use Rattle.judging.specs.declared.Verdict.{Verdict}
-use Rattle.judging.specs.declared.Verdict.TheVariants.{Accepted as Right, Refused as Failed}
+use Rattle.judging.specs.Judged.{Verdict}
+use Rattle.std.specs.Prelude.{Ok as Right, Err as Failed}
 use Rattle.reading.specs.Reading.{read_of}
 use Rattle.reading.specs.Recorded.{record_at, hours_of, totals_in}
 use Rattle.reading.specs.Reading.{Reading}

@@ -9,9 +9,8 @@ use Rattle.formulas.specs.Formulas.{Entry, entry_of, LiesBehind, passes_test}
 use Rattle.formulas.proofs.FormulaLaws.{test_exact}
 use Rattle.formulas.specs.declared.hour.Hour.{Hour}
 use Rattle.formulas.specs.declared.hour.Quantity.{Quantity}
-use Rattle.judging.specs.Judged.{figure_rows, Tried, tried, figures_tried, hour_failure}
+use Rattle.judging.specs.Judged.{PaperRow, figure_rows, Tried, tried, figures_tried, hour_failure}
 use Rattle.judging.proofs.JudgedLaws.{each_figure, Passes, hour_clauses, hour_told}
-use Rattle.judging.specs.declared.FigureRow.{FigureRow}
 
 pub hour_behind : (h : Hour) → HourWithin h → hour_failure h ≡ 0 → (q : Quantity) → (e : Entry q) × LiesBehind q h e
 hour_behind h w e q = (test_exact q h w.readings).0 (each_figure (λ q. passes_test q h ≡ true) ((hour_told h).right e) q)
@@ -20,7 +19,7 @@ hour_behind h w e q = (test_exact q h w.readings).0 (each_figure (λ q. passes_t
 pub set_passes : (h : Hour) (s : Unrounded) → HourWithin h → ((q : Quantity) → LiesBehind q h (entry_of q s)) → hour_failure h ≡ 0
 set_passes h s w b = told_none (hour_failure h) (hour_clauses h) (hour_told h) (go figure_rows)
   where
-    go : (rs : List FigureRow) → Hold (row_clauses (λ (t : Tried). t.number) (Passes h) (map tried rs))
+    go : (rs : List PaperRow) → Hold (row_clauses (λ (t : Tried). t.number) (Passes h) (map tried rs))
     go [] = tt
     go (r ∷ rs) = ((test_exact r.quantity h w.readings).1 (entry_of r.quantity s, b r.quantity), go rs)
 

@@ -11,12 +11,11 @@ use Rattle.formulas.specs.declared.hour.Hour.{Hour}
 use Rattle.formulas.specs.declared.hour.Quantity.{Quantity}
 use Rattle.formulas.specs.declared.hour.Quantity.TheVariants.{Heat, So2, Nox, Co2}
 use Rattle.totals.specs.declared.Quarter.{Quarter}
-use Rattle.judging.specs.Judged.{figure_of, figure_rows, figure_count, figure_at, Tried, tried, figures_tried, Stated, stated_totals, failed_at, failed_or, hour_failure, judged_hours}
-use Rattle.judging.specs.Judged.{said_same, totals_fault, compared_totals}
+use Rattle.judging.specs.Judged.{PaperRow, figure_of, figure_rows, figure_count, figure_at, Tried, tried, figures_tried, Stated}
+use Rattle.judging.specs.Judged.{stated_totals, failed_at, failed_or, hour_failure, judged_hours}
+use Rattle.judging.specs.Judged.{Verdict, said_same, totals_fault, compared_totals}
 use Rattle.judging.specs.JudgedPromise.{SaidAsFormed, total_clauses, FirstDiffers}
-use Rattle.judging.specs.declared.FigureRow.{FigureRow}
-use Rattle.judging.specs.declared.Verdict.{Verdict}
-use Rattle.judging.specs.declared.Verdict.TheVariants.{Accepted, Refused}
+use Rattle.std.specs.Prelude.{Ok as Accepted, Err as Refused}
 
 never_accepted : {A : Type 0} (number rank : ℕ) (r : Quarter) → failed_at number rank ≡ Accepted r → A
 never_accepted number rank r e = clash cc
@@ -43,8 +42,12 @@ or_refused : (n rank : ℕ) (rest : Verdict) (number at : ℕ) → failed_or n r
 or_refused zero rank rest number at e = inr (refl, e)
 or_refused (suc c) rank rest number at e = let s = same_failure (suc c) rank number at e in inl (sym s.1, c, refl, sym s.0)
 
+pub failed_said : (n number rank : ℕ) (rest : Verdict) → 1 ≤ n → n ≡ number → failed_at n rank ≡ failed_or number rank rest
+failed_said zero number rank rest h e = absurd (omega arith)
+failed_said (suc c) number rank rest h e = rw (← e)
+
 -- the table of the figures: a statement of each of its quantities is one of every quantity
-pub each_figure : (P : Quantity → Type 0) → All P (map (λ (r : FigureRow). r.quantity) figure_rows) → (q : Quantity) → P q
+pub each_figure : (P : Quantity → Type 0) → All P (map (λ (r : PaperRow). r.quantity) figure_rows) → (q : Quantity) → P q
 each_figure P a Heat = a.0
 each_figure P a So2 = a.1.0
 each_figure P a Nox = a.1.1.0
@@ -56,11 +59,11 @@ drop_figure j h =
     drop-cons figures_tried j (tried (figure_of Co2)) h
     ∙ ap₂ (λ (t : Tried) (n : ℕ). t ∷ drop n figures_tried) (mapped_at tried figure_rows (figure_of Co2) (tried (figure_of Co2)) j h) (sym (add-one j))
 
-figures_some : All (λ (r : FigureRow). 0 < r.number) figure_rows
+figures_some : All (λ (r : PaperRow). 0 < r.number) figure_rows
 figures_some = (lit≤ tt, (lit≤ tt, (lit≤ tt, (lit≤ tt, tt))))
 
 pub figure_some : (j : ℕ) → j < figure_count → 0 < (figure_at j).number
-figure_some j h = all_at (λ (r : FigureRow). 0 < r.number) figure_rows (figure_of Co2) j figures_some h
+figure_some j h = all_at (λ (r : PaperRow). 0 < r.number) figure_rows (figure_of Co2) j figures_some h
 
 -- an hour passes what it is tried by: its failure tells of it, and the numbers rise
 abbrev pub Passes : Hour → Tried → Type 0
@@ -147,7 +150,7 @@ module _ (f s : Quarter) where
       let o = or_accepted (totals_fault f s) 0 (Accepted f) r e in
       (accepted_same f r o.1, totals_told.right o.0)
     where
-      accepted_same : (a b : Quarter) → Accepted a ≡ Accepted b → a ≡ b
+      accepted_same : (a b : Quarter) → ◌≡◌ {A = Verdict} (Accepted a) (Accepted b) → a ≡ b
       accepted_same a b w = cc
 
   pub totals_agree : Hold (total_clauses stated_totals f s) → compared_totals f s ≡ Accepted f

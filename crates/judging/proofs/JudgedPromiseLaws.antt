@@ -19,7 +19,7 @@ use Rattle.totals.proofs.TotalLaws.{quarter_hours}
 use Rattle.totals.specs.Mass.{mass_tons}
 use Rattle.totals.proofs.MassLaws.{mass_near}
 use Rattle.totals.specs.declared.Quarter.{Quarter}
-use Rattle.judging.specs.Judged.{number_for, Tried, figures_tried, Stated, stated_totals, failed_at, compared_totals, judged_quarter}
+use Rattle.judging.specs.Judged.{Verdict, number_for, Tried, figures_tried, Stated, stated_totals, failed_at, compared_totals, judged_quarter}
 use Rattle.judging.specs.Behind.{LieBehind, SetsBehind, exact_amount, reported, allowed}
 use Rattle.judging.proofs.BoundLaws.{amount_bound}
 use Rattle.judging.specs.JudgedPromise.{SaidAsFormed, total_clauses, FirstDiffers, OfRow, FailsFirst, DiffersFirst, JudgedPromise}
@@ -27,8 +27,7 @@ use Rattle.judging.specs.JudgedPromise.OfRow.{of_hour, of_quarter}
 use Rattle.judging.proofs.JudgedLaws.{each_figure, Passes, hour_clauses, hour_told, hour_rises, NoFailure, hours_accepted, hours_pass, Failing, hours_refused}
 use Rattle.judging.proofs.JudgedLaws.{totals_accepted, totals_agree, totals_differ, same_said, said_same_lem}
 use Rattle.judging.proofs.HourLaws.{hour_behind, set_passes, tries, OfHours, rows_own}
-use Rattle.judging.specs.declared.Verdict.{Verdict}
-use Rattle.judging.specs.declared.Verdict.TheVariants.{Accepted}
+use Rattle.std.specs.Prelude.{Ok as Accepted}
 
 pass_behind : (q : Quantity) (hs : List Hour) → HoursWithin hs → NoFailure hs → (es : List (Entry q)) × LieBehind q hs es
 pass_behind q [] w p = ([], tt)

@@ -4,3 +4,4 @@ pub mod JudgedLaws
 pub mod JudgedPromiseLaws
 pub mod ShareLaws
 pub mod HourLaws
+pub mod RowLaws

@@ -1,5 +1,5 @@
 -- How the hours and the totals of a quarter are judged: by lists of hours, without a file and without a sheet. It computes.
-use Rattle.std.specs.Prelude.{ℕ, zero, suc, List, [], ◌∷◌, map, Bool, cond, eqb, length, get_or}
+use Rattle.std.specs.Prelude.{ℕ, zero, suc, List, [], ◌∷◌, map, Bool, cond, eqb, length, get_or, Option, None, Some, Result}
 use Rattle.exact.specs.Faults.{first_failing}
 use Rattle.layout.specs.declared.RecordType.{RecordType}
 use Rattle.layout.specs.declared.RecordType.TheVariants.{Operation, QuarterTotals, So2Mass, NoxRate, Co2Mass}
@@ -9,15 +9,40 @@ use Rattle.formulas.specs.declared.hour.Quantity.{Quantity}
 use Rattle.formulas.specs.declared.hour.Quantity.TheVariants.{Heat, So2, Nox, Co2}
 use Rattle.totals.specs.Totals.{quarter_totals}
 use Rattle.totals.specs.declared.Quarter.{Quarter}
+use Rattle.refusals.specs.Refusals.{fault_number}
 use Rattle.judging.specs.declared.FigureRow.{FigureRow}
-use Rattle.judging.specs.declared.Verdict.{Verdict}
-use Rattle.judging.specs.declared.Verdict.TheVariants.{Accepted, Refused}
+use Rattle.judging.specs.declared.Failure.{Failure}
+use Rattle.std.specs.Prelude.{Ok as Accepted, Err as Refused}
 
-abbrev pub figure : Quantity → ℕ → RecordType → FigureRow
+-- the figure of an hour as the paper has it: its refusal by its number
+pub record PaperRow : Type 0 where
+  pub quantity : Quantity
+  pub number : ℕ
+  pub record_type : RecordType
+
+abbrev pub row_told : FigureRow → PaperRow
+row_told r = record { quantity = r.quantity; number = fault_number r.fault; record_type = r.record_type }
+
+-- a failure as the paper has it: the number of its refusal; where an hour's figure fails, that hour's rank from 1, else 0
+pub record PaperFailure : Type 0 where
+  pub number : ℕ
+  pub rank : ℕ
+
+abbrev pub rank_told : Option ℕ → ℕ
+rank_told None = 0
+rank_told (Some k) = suc k
+
+abbrev pub failure_told : Failure → PaperFailure
+failure_told f = record { number = fault_number f.fault; rank = rank_told f.hour }
+
+abbrev pub Verdict : Type 0
+Verdict = Result Quarter PaperFailure
+
+abbrev pub figure : Quantity → ℕ → RecordType → PaperRow
 figure quantity number type = record { quantity = quantity; number = number; record_type = type }
 
 -- the figure of a quantity: its refusal, and the type of the line on which it stands
-abbrev pub figure_of : Quantity → FigureRow
+abbrev pub figure_of : Quantity → PaperRow
 figure_of Heat = figure Heat 11 Operation
 figure_of So2 = figure So2 12 So2Mass
 figure_of Nox = figure Nox 13 NoxRate
@@ -30,13 +55,13 @@ abbrev pub type_for : Quantity → RecordType
 type_for q = (figure_of q).record_type
 
 -- the figures of an hour in the order of judging
-abbrev pub figure_rows : List FigureRow
+abbrev pub figure_rows : List PaperRow
 figure_rows = figure_of Heat ∷ figure_of So2 ∷ figure_of Nox ∷ figure_of Co2 ∷ []
 
 abbrev pub figure_count : ℕ
 figure_count = length figure_rows
 
-abbrev pub figure_at : ℕ → FigureRow
+abbrev pub figure_at : ℕ → PaperRow
 figure_at j = get_or figure_rows j (figure_of Co2)
 
 -- what an hour is tried by: a test, its refusal, and the type of the line that the refusal names
@@ -45,7 +70,7 @@ pub record Tried : Type 0 where
   pub number : ℕ
   pub type : RecordType
 
-abbrev pub tried : FigureRow → Tried
+abbrev pub tried : PaperRow → Tried
 tried f = record { passes = passes_test f.quantity; number = f.number; type = f.record_type }
 
 -- in this order

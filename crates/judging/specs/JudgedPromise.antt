@@ -16,10 +16,9 @@ use Rattle.formulas.specs.declared.hour.Quantity.{Quantity}
 use Rattle.totals.specs.Totals.{quarter_totals}
 use Rattle.totals.specs.Mass.{mass_tons}
 use Rattle.totals.specs.declared.Quarter.{Quarter}
-use Rattle.judging.specs.Judged.{number_for, Tried, figures_tried, Stated, stated_totals, failed_at}
+use Rattle.judging.specs.Judged.{Verdict, number_for, Tried, figures_tried, Stated, stated_totals, failed_at}
 use Rattle.judging.specs.Behind.{LieBehind, SetsBehind, exact_amount, reported, allowed}
-use Rattle.judging.specs.declared.Verdict.{Verdict}
-use Rattle.judging.specs.declared.Verdict.TheVariants.{Accepted}
+use Rattle.std.specs.Prelude.{Ok as Accepted}
 
 -- a total is said as it is formed
 abbrev pub SaidAsFormed : (formed said : Quarter) → Stated → Type 0

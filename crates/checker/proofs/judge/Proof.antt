@@ -2,7 +2,7 @@
 use Prim.Native.Nat.{ℕ}
 use mathlib.Core.Path.{◌≡◌, sym, ap, ◌∙◌}
 use mathlib.Core.List.{List}
-use Rattle.judging.specs.declared.Verdict.TheVariants.{Refused as Failed}
+use Rattle.std.specs.Prelude.{Err as Failed}
 use Rattle.checker.specs.Checked.{refused_at, answer_of, verdict_on, judged}
 use Rattle.checker.proofs.JudgingLaws.{failure_record}
 use borrow.Author.Rules.{rules}

@@ -20,7 +20,7 @@ use Rattle.judging.specs.Judged.{figure_count, figure_at, failed_at}
 use Rattle.judging.proofs.JudgedLaws.{figure_some}
 use Rattle.judging.specs.declared.FigureRow.{FigureRow}
 use Rattle.judging.specs.declared.Failure.{Failure}
-use Rattle.judging.specs.declared.Verdict.TheVariants.{Refused}
+use Rattle.std.specs.Prelude.{Err as Refused}
 use Rattle.checker.specs.Judging.{Judgeable}
 use Rattle.checker.proofs.Pass.{left_first, left_hour, figure_passed, figure_failed, totals_first}
 use Rattle.checker.proofs.Pass.{pass_next, pass_end, HourPass, FigurePass}
