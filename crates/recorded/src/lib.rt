@@ -70,10 +70,8 @@ pub fn place_of(file: &[u8], s: Shape, t: RecordType, k: usize) -> usize
     requires { Standing file.now s × (k < length (records_of file.now t)) }
     ensures { Stands file.now s t k result }
 {
-    let run = layout::row_of(t).run;
-    match run {
-        Run::Once => k,
-        Run::Hourly => k,
+    match layout::row_of(t).run {
+        Run::Once | Run::Hourly => k,
         Run::Listed => operating_place(file, s, k),
     }
 }
