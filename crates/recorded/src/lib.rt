@@ -44,15 +44,13 @@ pub fn operating_from(file: &[u8], s: Shape, p: usize) -> ListedHour
     requires { Standing file.now s × (0 < length (operating_from file.now s p)) }
     ensures { result ≡ listed_hour file.now s (operating_place file.now s p) }
 {
-    let mut place = p;
-    while place < s.operations {
+    for place in p..s.operations {
         let time = value_in(file, s, RecordType::Operation, place, 0);
         if time != 0 {
             return ListedHour { place, time };
         }
-        place += 1;
     }
-    ListedHour { place, time: 0 }
+    unreachable!()
 }
 
 // The place of the 300 line of operating hour k, from 0, of a file of a shape whose lines are right.
@@ -60,11 +58,9 @@ fn operating_place(file: &[u8], s: Shape, k: usize) -> usize
     requires { Standing file.now s × (k < s.hours) }
     ensures { Stands file.now s RecordType.Operation k result }
 {
-    let mut j: usize = 0;
-    let mut from: usize = 0;
-    while j < k {
+    let mut from = 0;
+    for _ in 0..k {
         from = operating_from(file, s, from).place + 1;
-        j += 1;
     }
     operating_from(file, s, from).place
 }
@@ -74,10 +70,8 @@ pub fn place_of(file: &[u8], s: Shape, t: RecordType, k: usize) -> usize
     requires { Standing file.now s × (k < length (records_of file.now t)) }
     ensures { Stands file.now s t k result }
 {
-    let run = layout::row_of(t).run;
-    match run {
-        Run::Once => k,
-        Run::Hourly => k,
+    match layout::row_of(t).run {
+        Run::Once | Run::Hourly => k,
         Run::Listed => operating_place(file, s, k),
     }
 }

@@ -1,0 +1,49 @@
+use Rattle.std.proofs.Common.{◌≡◌, ℕ, ◌<◌, List, refl, sym, ap, ◌∙◌}
+use Rattle.columns.specs.Number.{number_of}
+use Rattle.layout.specs.Layout.{record_of, value_at}
+use Rattle.layout.specs.Values.{thousands_of}
+use Rattle.layout.specs.declared.RecordType.{RecordType}
+use Rattle.layout.specs.declared.RecordType.TheVariants.{So2Concentration, NoxConcentration, Co2Concentration, VolumetricFlow, Operation}
+use Rattle.layout.specs.declared.RecordType.TheVariants.{So2Mass, NoxRate, Co2Mass}
+use Rattle.layout.specs.declared.Run.TheVariants.{Hourly}
+use Rattle.layout.specs.declared.Shape.{Shape}
+use Rattle.lines.specs.LineFaults.{field_in, has_gas}
+use Rattle.reading.specs.Recorded.{Line, record_at, value_on, hour_at}
+use Rattle.reading.specs.Places.{line_at, Standing}
+use Rattle.reading.specs.RankLaws.{value_stands, hour_stands}
+use Rattle.recorded.specs.declared.ListedHour.{ListedHour}
+use Rattle.recorded.proofs.hour.Goals as goal
+
+-- the values of the hour's records, by rank
+module _ (file : List ℕ) (s : Shape) (d : Standing file s) (t : RecordType) (e : (record_of t).run ≡ Hourly) (k : ℕ) (h : k < s.hours) where
+  own_text : (line_at file s t k).text ≡ (record_at file t k).text
+  own_text = sym (ap (λ (l : Line). l.text) (hour_stands file s d t e k h).there)
+
+  ranked : (i : ℕ) → number_of (field_in (value_at t i) (line_at file s t k).text) ≡ value_on file t k i
+  ranked i = value_stands file s t k k (hour_stands file s d t e k h) i
+
+pub returns : goal.returns
+unfolding hour_at
+returns c =
+    let x = c.args in
+    let listed = value_stands x.file.now x.s Operation x.k x.at.place c.requires.2 in
+    let own : (t : RecordType) → (record_of t).run ≡ Hourly → (i : ℕ) →
+    number_of (field_in (value_at t i) (line_at x.file.now x.s t x.k).text) ≡ value_on x.file.now t x.k i =
+    λ t e. ranked x.file.now x.s c.requires.0 t e x.k c.requires.1 in
+    λ i. record {
+      time = (ap (λ (at : ListedHour). at.time) c.requires.3 ∙ listed 0) i;
+      gas = (c.gas_in.ensures ∙ ap has_gas (own_text x.file.now x.s c.requires.0 So2Mass refl x.k c.requires.1)) i;
+      readings = record {
+        so2 = (c.value_in.ensures ∙ own So2Concentration refl 0) i;
+        nox = (c.value_in-2.ensures ∙ own NoxConcentration refl 0) i;
+        co2 = (c.value_in-3.ensures ∙ own Co2Concentration refl 0) i;
+        flow = (c.thousands_of.ensures ∙ ap thousands_of (c.value_in-4.ensures ∙ own VolumetricFlow refl 0)) i;
+        fc = (c.value_in-5.ensures ∙ own NoxRate refl 0) i;
+      };
+      figures = record {
+        heat = (c.value_in-6.ensures ∙ listed 1) i;
+        so2 = (c.value_in-7.ensures ∙ own So2Mass refl 0) i;
+        nox = (c.value_in-8.ensures ∙ own NoxRate refl 1) i;
+        co2 = (c.value_in-9.ensures ∙ own Co2Mass refl 0) i;
+      };
+    }
