@@ -5,30 +5,28 @@ use mathlib.Core.List.{List, [], ◌∷◌}
 use native.Mathlib.Omega.{arith}
 use native.Mathlib.Nat.{add-sub_cancel_left}
 use native.Mathlib.Numerals.{add-one}
-use lib.ListN.{length, take, drop, set, get_or, drop_of_length-le}
-use lib.Seq.{length-take-le, drop-cons, drop-drop, set_split, get_or-take}
+use lib.ListN.{length, drop, set, get_or, drop_of_length-le}
+use lib.Seq.{drop-cons, drop-drop, set_split}
 use borrow.Rule.Slice.PartMut.{put_mid}
 use Rattle.columns.specs.Columns.{put}
 use Rattle.columns.proofs.ColumnsLaws.{put_length, put_beside}
 use Rattle.columns.specs.Written.{written}
-use Rattle.layout.specs.Layout.{value_count, values_of, value_at, most_values}
+use Rattle.layout.specs.Layout.{value_count, values_of, value_at}
 use Rattle.layout.specs.Values.{no_value}
-use Rattle.layout.specs.LayoutLaws.{values_most}
 use Rattle.layout.specs.declared.RecordType.{RecordType}
 use Rattle.records.specs.Records.{valued, ended}
 
 -- the values of a record from the i-th on
 module _ (t : RecordType) (values : List ℕ) where
   abbrev pub values_left : ℕ → List ℕ → List ℕ
-  values_left i line = valued (drop i (values_of t)) (drop i (take (value_count t) values)) line
+  values_left i line = valued (drop i (values_of t)) (drop i values) line
 
-  pub values_more : (i : ℕ) (line : List ℕ) → i < value_count t → length values ≡ most_values
+  pub values_more : (i : ℕ) (line : List ℕ) → i < value_count t → length values ≡ value_count t
       → values_left (i + 1) (put (value_at t i).start (written (value_at t i).width (value_at t i).decimals (get_or values i 0)) line) ≡ values_left i line
   unfolding valued
-  values_more i line h most =
-      let n : length (take (value_count t) values) ≡ value_count t = length-take-le (value_count t) values (omega (arith, values_most t)) in
-      let a : i < length (take (value_count t) values) = omega arith in
-      rw (add-one i, drop-cons (values_of t) i no_value h, drop-cons (take (value_count t) values) i 0 a, get_or-take (value_count t) values i 0 h)
+  values_more i line h many =
+      let a : i < length values = omega arith in
+      rw (add-one i, drop-cons (values_of t) i no_value h, drop-cons values i 0 a)
 
   pub values_end : (i : ℕ) (line : List ℕ) → value_count t ≤ i → values_left i line ≡ line
   unfolding valued

@@ -14,8 +14,8 @@ use layout::{RecordType, Shape, values};
 use totals::Quarter;
 
 // Type and stack name in an otherwise blank record.
-fn write_heading(line: &mut [u8], name: &[u8], t: RecordType)
-    requires { (length line.old ≡ length_of t) × (length name.now ≡ stack_width) }
+fn write_heading(line: &mut [u8], name: &[u8; layout::STACK_WIDTH], t: RecordType)
+    requires { (length line.old ≡ length_of t) }
     ensures { line.new ≡ headed t name.now }
 {
     filling::fill_with(line, 32);
@@ -28,22 +28,19 @@ fn write_heading(line: &mut [u8], name: &[u8], t: RecordType)
     filling::write_bytes(line, layout::STACK_START, name);
 }
 
-// The first of these numbers, as many as the record has values, in its columns.
-fn write_values(line: &mut [u8], t: RecordType, values: [u64; layout::MOST_VALUES])
-    requires { length line.old ≡ length_of t }
-    ensures { line.new ≡ valued (values_of t) (take (value_count t) values) line.old }
+// A record's values in their columns.
+fn write_values(line: &mut [u8], t: RecordType, values: &[u64])
+    requires { (length line.old ≡ length_of t) × (length values.now ≡ value_count t) }
+    ensures { line.new ≡ valued (values_of t) values.now line.old }
 {
-    let count = layout::value_count(t);
-    let mut i = 0;
-    while i < count {
+    for (i, value) in values.iter().enumerate() {
         let v = layout::value_at(t, i);
-        filling::write_number(line, v.start, v.width, v.decimals, values[i]);
-        i += 1;
+        filling::write_number(line, v.start, v.width, v.decimals, *value);
     }
 }
 
-fn facility_record(line: &mut [u8], name: &[u8], year: u64, quarter: u64)
-    requires { (length line.old ≡ length_of RecordType.Facility) × (length name.now ≡ stack_width) }
+fn facility_record(line: &mut [u8], name: &[u8; layout::STACK_WIDTH], year: u64, quarter: u64)
+    requires { (length line.old ≡ length_of RecordType.Facility) }
     ensures { line.new ≡ facility_record year quarter name.now }
 {
     write_heading(line, name, RecordType::Facility);
@@ -51,49 +48,48 @@ fn facility_record(line: &mut [u8], name: &[u8], year: u64, quarter: u64)
     filling::write_digits(line, values::QUARTER.start, values::QUARTER.width, quarter);
 }
 
-// The values of an hour in its record of a type, and zeros behind them.
-fn hour_values(t: RecordType, h: Hour) -> [u64; layout::MOST_VALUES]
-    requires { (1 ≤ date_column t) × ReadingsWithin h.readings }
-    ensures { take (value_count t) result ≡ hour_values t h }
+// The values of an hour in its record of a type, which has a date.
+fn write_hour_values(line: &mut [u8], t: RecordType, h: Hour)
+    requires { (length line.old ≡ length_of t) × (1 ≤ date_column t) × ReadingsWithin h.readings }
+    ensures { line.new ≡ valued (values_of t) (hour_values t h) line.old }
 {
     match t {
-        RecordType::Facility => [0, 0, 0, 0, 0],
-        RecordType::So2Concentration => [h.readings.so2, 0, 0, 0, 0],
-        RecordType::NoxConcentration => [h.readings.nox, 0, 0, 0, 0],
-        RecordType::Co2Concentration => [h.readings.co2, 0, 0, 0, 0],
-        RecordType::VolumetricFlow => [values::scfh_of(h.readings.flow), 0, 0, 0, 0],
-        RecordType::Operation => [h.time, h.figures.heat, 0, 0, 0],
-        RecordType::QuarterTotals => [0, 0, 0, 0, 0],
-        RecordType::So2Mass => [h.figures.so2, 0, 0, 0, 0],
-        RecordType::NoxRate => [h.readings.fc, h.figures.nox, 0, 0, 0],
-        RecordType::Co2Mass => [h.figures.co2, 0, 0, 0, 0],
+        RecordType::Facility | RecordType::QuarterTotals => {}
+        RecordType::So2Concentration => write_values(line, t, &[h.readings.so2]),
+        RecordType::NoxConcentration => write_values(line, t, &[h.readings.nox]),
+        RecordType::Co2Concentration => write_values(line, t, &[h.readings.co2]),
+        RecordType::VolumetricFlow => write_values(line, t, &[values::scfh_of(h.readings.flow)]),
+        RecordType::Operation => write_values(line, t, &[h.time, h.figures.heat]),
+        RecordType::So2Mass => write_values(line, t, &[h.figures.so2]),
+        RecordType::NoxRate => write_values(line, t, &[h.readings.fc, h.figures.nox]),
+        RecordType::Co2Mass => write_values(line, t, &[h.figures.co2]),
     }
 }
 
 // The record of an hour, whose date is a number of eight digits.
-fn hour_record(line: &mut [u8], name: &[u8], t: RecordType, date: u64, h: Hour)
-    requires { (length line.old ≡ length_of t) × (length name.now ≡ stack_width) × (1 ≤ date_column t) × ReadingsWithin h.readings }
+fn hour_record(line: &mut [u8], name: &[u8; layout::STACK_WIDTH], t: RecordType, date: u64, h: Hour)
+    requires { (length line.old ≡ length_of t) × (1 ≤ date_column t) × ReadingsWithin h.readings }
     ensures { line.new ≡ dated_record name.now t (digits_of date_width date) h }
 {
     write_heading(line, name, t);
     filling::write_digits(line, layout::date_column(t), layout::DATE_WIDTH, date);
-    write_values(line, t, hour_values(t, h));
+    write_hour_values(line, t, h);
 }
 
-fn totals_record(line: &mut [u8], name: &[u8], q: Quarter)
-    requires { (length line.old ≡ length_of RecordType.QuarterTotals) × (length name.now ≡ stack_width) }
+fn totals_record(line: &mut [u8], name: &[u8; layout::STACK_WIDTH], q: Quarter)
+    requires { (length line.old ≡ length_of RecordType.QuarterTotals) }
     ensures { line.new ≡ totals_record name.now q }
 {
     write_heading(line, name, RecordType::QuarterTotals);
     write_values(
         line,
         RecordType::QuarterTotals,
-        [q.so2, q.co2, q.heat, q.nox, q.nox_tons],
+        &[q.so2, q.co2, q.heat, q.nox, q.nox_tons],
     );
 }
 
-pub fn write_facility(buffer: &mut [u8], name: &[u8], year: u64, quarter: u64)
-    requires { (length_of RecordType.Facility < length buffer.old) × (length name.now ≡ stack_width) }
+pub fn write_facility(buffer: &mut [u8], name: &[u8; layout::STACK_WIDTH], year: u64, quarter: u64)
+    requires { (length_of RecordType.Facility < length buffer.old) }
     ensures { buffer.new ≡ put 1 (ended (facility_record year quarter name.now)) buffer.old }
 {
     let end = layout::line_length(RecordType::Facility);
@@ -104,7 +100,7 @@ pub fn write_facility(buffer: &mut [u8], name: &[u8], year: u64, quarter: u64)
 // The line of a type of hour k.
 pub fn write_hour(
     buffer: &mut [u8],
-    name: &[u8],
+    name: &[u8; layout::STACK_WIDTH],
     s: Shape,
     t: RecordType,
     k: usize,
@@ -121,8 +117,8 @@ pub fn write_hour(
     buffer[end] = 10;
 }
 
-pub fn write_totals(buffer: &mut [u8], name: &[u8], at: usize, q: Quarter)
-    requires { (at + length_of RecordType.QuarterTotals < length buffer.old) × (length name.now ≡ stack_width) }
+pub fn write_totals(buffer: &mut [u8], name: &[u8; layout::STACK_WIDTH], at: usize, q: Quarter)
+    requires { (at + length_of RecordType.QuarterTotals < length buffer.old) }
     ensures { buffer.new ≡ put (at + 1) (ended (totals_record name.now q)) buffer.old }
 {
     let end = at + layout::line_length(RecordType::QuarterTotals);
