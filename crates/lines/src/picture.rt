@@ -39,21 +39,22 @@ fn ranged(line: &[u8], t: RecordType, v: Value) -> bool
 }
 
 // Whether the numbers of a line are of their ranges: every other value may be whatever its columns hold.
+#[tactic(auto, using(layout::proofs::ValueLaws::value_inside), unfolding(crate::specs::Pictured::ranges_hold))]
 fn in_ranges(line: &[u8], t: RecordType) -> bool
     requires { length line.now ≡ length_of t }
     ensures { result ≡ ranges_hold t line.now }
 {
     match t {
-        RecordType::Facility => true,
-        RecordType::So2Concentration => true,
-        RecordType::NoxConcentration => true,
         RecordType::Co2Concentration => ranged(line, t, values::CO2_PERCENT),
         RecordType::VolumetricFlow => ranged(line, t, values::FLOW_SCFH),
         RecordType::Operation => ranged(line, t, values::TIME_HOURS),
-        RecordType::QuarterTotals => true,
-        RecordType::So2Mass => true,
         RecordType::NoxRate => ranged(line, t, values::F_FACTOR),
-        RecordType::Co2Mass => true,
+        RecordType::Facility
+        | RecordType::So2Concentration
+        | RecordType::NoxConcentration
+        | RecordType::QuarterTotals
+        | RecordType::So2Mass
+        | RecordType::Co2Mass => true,
     }
 }
 
