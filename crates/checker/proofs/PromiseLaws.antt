@@ -1,5 +1,5 @@
 -- The promise holds of what the check answers to every file. Promise.antt states it.
-use Rattle.std.specs.Prelude.{ℕ, ◌≡◌, refl, List, [], ◌∷◌, false, length, get_or}
+use Rattle.std.specs.Prelude.{ℕ, ◌≡◌, refl, List, [], ◌∷◌, false, length, get_or, Ok, Err}
 use Rattle.std.proofs.Common.{sym, ap, subst, ◌∙◌, arith}
 use Rattle.std.proofs.lemmas.Bool.{false≢true}
 use Rattle.exact.specs.Logic.{clash, ranked_length, All, ranked_all}
@@ -13,7 +13,6 @@ use Rattle.judging.specs.Judged.{number_for, Stated, stated_totals, acceptance, 
 use Rattle.judging.specs.JudgedPromise.{DiffersFirst, JudgedPromise}
 use Rattle.judging.proofs.JudgedLaws.{each_figure, said_same_lem}
 use Rattle.judging.specs.Judged.{Verdict}
-use Rattle.std.specs.Prelude.{Ok as Right, Err as Failed}
 use Rattle.lines.specs.Clauses.{of_line_checks}
 use Rattle.reading.specs.Reading.{read_of}
 use Rattle.reading.specs.Recorded.{record_at, hour_count, hour_at, hours_of, totals_in}
@@ -23,28 +22,26 @@ use Rattle.reading.specs.RightFile.{RightFile}
 use Rattle.reading.specs.RightFileLaws.{read_right, right_read}
 use Rattle.reading.specs.declared.Report.{Report}
 use Rattle.reading.specs.Reading.{Reading}
-use Rattle.std.specs.Prelude.{Ok as Clean, Err as Stopped}
 use Rattle.checker.specs.Checked.{refusal, answer_numbers, refused_at, line_named, answer_of, verdict_on, judged, after_reading, checked}
 use Rattle.checker.proofs.JudgingLaws.{right_judgeable, figure_named, file_judged}
 use Rattle.checker.specs.Promise.{HonestlyRounded, operating_lines, FailsAt, DiffersAt, Promise}
 use Rattle.checker.specs.Checked.{Answer}
-use Rattle.std.specs.Prelude.{Ok as Accepted, Err as Refused}
 
 pub hours_count : (file : List ℕ) → length (hours_of file) ≡ hour_count file
 unfolding hours_of
 hours_count file = ranked_length (hour_at file) 0 (hour_count file)
 
 -- what an answer says is an acceptance's or a refusal's
-never_accepted : {A : Type 0} (number line : ℕ) (r : Quarter) → refused_at number line ≡ Accepted r → A
+never_accepted : {A : Type 0} (number line : ℕ) (r : Quarter) → refused_at number line ≡ Ok r → A
 never_accepted number line r e = clash cc
 
 number_in : Answer → ℕ
-number_in (Accepted r) = 0
-number_in (Refused r) = r.number
+number_in (Ok r) = 0
+number_in (Err r) = r.number
 
 line_in : Answer → ℕ
-line_in (Accepted r) = 0
-line_in (Refused r) = r.line
+line_in (Ok r) = 0
+line_in (Err r) = r.line
 
 same_refusal : (a b c d : ℕ) → refused_at a b ≡ refused_at c d → (a ≡ c) × (b ≡ d)
 unfolding number_in line_in
@@ -58,30 +55,30 @@ right_judged file report right = file_judged file report.shape (right_judgeable 
 pub record Facts (file : List ℕ) (r : Quarter) : Type 0 where
   pub report : Report
   pub right : RightFile file report
-  pub verdict : verdict_on file ≡ Right r
+  pub verdict : verdict_on file ≡ Ok r
 
-answer_accepted : (file : List ℕ) (v : Verdict) (r : Quarter) → answer_of file v ≡ Accepted r → v ≡ Right r
-answer_accepted file (Right q) r e = ap Right (same q r e)
+answer_accepted : (file : List ℕ) (v : Verdict) (r : Quarter) → answer_of file v ≡ Ok r → v ≡ Ok r
+answer_accepted file (Ok q) r e = ap Ok (same q r e)
   where
-    same : (a b : Quarter) → Accepted a ≡ Accepted b → a ≡ b
+    same : (a b : Quarter) → Ok a ≡ Ok b → a ≡ b
     same a b w = cc
-answer_accepted file (Failed f) r e = never_accepted f.number (line_named file f.number f.rank) r e
+answer_accepted file (Err f) r e = never_accepted f.number (line_named file f.number f.rank) r e
 
-pub accepted_facts : (file : List ℕ) (r : Quarter) → checked file ≡ Accepted r → Facts file r
+pub accepted_facts : (file : List ℕ) (r : Quarter) → checked file ≡ Ok r → Facts file r
 unfolding checked after_reading judged
 accepted_facts file r e = go (read_of file) refl e
   where
-    go : (x : Reading) → read_of file ≡ x → after_reading file x ≡ Accepted r → Facts file r
-    go (Clean report) c w = record { report = report; right = read_right file report c; verdict = answer_accepted file (verdict_on file) r w }
-    go (Stopped x) c w = never_accepted x.number x.line r w
+    go : (x : Reading) → read_of file ≡ x → after_reading file x ≡ Ok r → Facts file r
+    go (Ok report) c w = record { report = report; right = read_right file report c; verdict = answer_accepted file (verdict_on file) r w }
+    go (Err x) c w = never_accepted x.number x.line r w
 
 -- a file of which they hold is accepted with these totals
-pub facts_accepted : (file : List ℕ) (r : Quarter) → Facts file r → checked file ≡ Accepted r
+pub facts_accepted : (file : List ℕ) (r : Quarter) → Facts file r → checked file ≡ Ok r
 unfolding checked after_reading judged
 facts_accepted file r f = ap (after_reading file) (right_read file f.report f.right) ∙ ap (answer_of file) f.verdict
 
 -- an honest file is accepted with the totals formed
-pub honest_checked : (file : List ℕ) (sets : List Unrounded) → HonestlyRounded file sets → checked file ≡ Accepted (quarter_totals (hours_of file))
+pub honest_checked : (file : List ℕ) (sets : List Unrounded) → HonestlyRounded file sets → checked file ≡ Ok (quarter_totals (hours_of file))
 unfolding hours_of
 honest_checked file sets h =
     facts_accepted file (quarter_totals (hours_of file)) (record {
@@ -104,8 +101,8 @@ refusing file number line apart e = go (read_of file) refl e
   where
     failing : (report : Report) → RightFile file report → (v : Verdict) → verdict_on file ≡ v → answer_of file v ≡ refused_at number line →
         Refusing file number line
-    failing report right (Right q) o w = never_accepted number line q (sym w)
-    failing report right (Failed f) o w =
+    failing report right (Ok q) o w = never_accepted number line q (sym w)
+    failing report right (Err f) o w =
         let s = same_refusal f.number (line_named file f.number f.rank) number line w in
         record {
           report = report;
@@ -116,8 +113,8 @@ refusing file number line apart e = go (read_of file) refl e
         }
 
     go : (x : Reading) → read_of file ≡ x → after_reading file x ≡ refused_at number line → Refusing file number line
-    go (Stopped x) c w = absurd (false≢true (sym apart ∙ rw (same_refusal x.number x.line number line w).0 at (refused_number (refused_by file x c))))
-    go (Clean report) c w = failing report (read_right file report c) (verdict_on file) refl w
+    go (Err x) c w = absurd (false≢true (sym apart ∙ rw (same_refusal x.number x.line number line w).0 at (refused_number (refused_by file x c))))
+    go (Ok report) c w = failing report (read_right file report c) (verdict_on file) refl w
 
 -- the numbers of figures and totals are none of the line checks
 
@@ -161,17 +158,17 @@ operating_count file report right =
     hours_standing file report.shape d ∙ sym d.operating ∙ ap length (operating_lines_lem file)
 
 -- the numbers that an answer says determine it
-pub accepts : (answer : Answer) (r : Quarter) → answer_numbers answer ≡ acceptance r → answer ≡ Accepted r
-accepts (Accepted q) r e =
+pub accepts : (answer : Answer) (r : Quarter) → answer_numbers answer ≡ acceptance r → answer ≡ Ok r
+accepts (Ok q) r e =
     let at : (k : ℕ) → get_or (acceptance q) k 0 ≡ get_or (acceptance r) k 0 = λ k. ap (λ (l : List ℕ). get_or l k 0) e in
-    ap Accepted (said_same_lem q r (at 0) (at 1, (at 2, (at 3, (at 4, (at 5, tt))))))
-accepts (Refused x) r e = absurd (let l = ap length e in omega arith)
+    ap Ok (said_same_lem q r (at 0) (at 1, (at 2, (at 3, (at 4, (at 5, tt))))))
+accepts (Err x) r e = absurd (let l = ap length e in omega arith)
 
 refuses : (answer : Answer) (number line : ℕ) → answer_numbers answer ≡ refusal number line → answer ≡ refused_at number line
-refuses (Accepted q) number line e = absurd (let l = ap length e in omega arith)
-refuses (Refused x) number line e =
+refuses (Ok q) number line e = absurd (let l = ap length e in omega arith)
+refuses (Err x) number line e =
     let at : (k : ℕ) → get_or (refusal x.number x.line) k 0 ≡ get_or (refusal number line) k 0 = λ k. ap (λ (l : List ℕ). get_or l k 0) e in
-    λ i. Refused (record { number = at 0 i; line = at 1 i })
+    λ i. Err (record { number = at 0 i; line = at 1 i })
 
 module _ (file : List ℕ) where
   -- what an acceptance rests on, by its numbers

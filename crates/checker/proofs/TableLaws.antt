@@ -1,5 +1,5 @@
 -- Every answer of the check is of a row of its table. Table.antt has the rows.
-use Rattle.std.specs.Prelude.{ℕ, ◌≡◌, List, [], ◌∷◌, true}
+use Rattle.std.specs.Prelude.{ℕ, ◌≡◌, List, [], ◌∷◌, true, Ok, Err}
 use Rattle.std.proofs.Math.Path.{refl}
 use Rattle.std.proofs.Common.{sym, subst, arith}
 use Rattle.exact.specs.Logic.{all_member}
@@ -9,7 +9,6 @@ use Rattle.judging.specs.Judged.{figures_tried, stated_totals}
 use Rattle.judging.specs.JudgedPromise.{OfRow}
 use Rattle.judging.specs.JudgedPromise.OfRow.{of_hour, of_quarter}
 use Rattle.judging.specs.Judged.{Verdict}
-use Rattle.std.specs.Prelude.{Ok as Right, Err as Failed}
 use Rattle.reading.specs.Reading.{read_of}
 use Rattle.reading.specs.Recorded.{record_at, hour_count}
 use Rattle.reading.specs.RecordedLaws.{has_record}
@@ -19,7 +18,6 @@ use Rattle.reading.specs.RightFile.{RightFile}
 use Rattle.reading.specs.RightFileLaws.{read_right}
 use Rattle.reading.specs.declared.Report.{Report}
 use Rattle.reading.specs.Reading.{Reading}
-use Rattle.std.specs.Prelude.{Ok as Clean, Err as Stopped}
 use Rattle.checker.specs.Checked.{refusal, answer_numbers, refused_at, line_named, answer_of, verdict_on, judged, after_reading, checked}
 use Rattle.checker.specs.Judging.{Judgeable}
 use Rattle.checker.proofs.JudgingLaws.{right_judgeable, type_named_lem, file_judged, hour_record_lem}
@@ -49,16 +47,16 @@ module _ (file : List ℕ) where
     judged_listed = go (verdict_on file) refl
       where
         go : (v : Verdict) → verdict_on file ≡ v → Listed (answer_of file v)
-        go (Right q) e = accepted q
-        go (Failed f) e = row_listed ((file_judged file report.shape judgeable).rows f.number f.rank e)
+        go (Ok q) e = accepted q
+        go (Err f) e = row_listed ((file_judged file report.shape judgeable).rows f.number f.rank e)
 
   pub in_table : InTable file (answer_numbers (checked file))
   unfolding checked after_reading
   in_table = go (read_of file) refl
     where
       go : (x : Reading) → read_of file ≡ x → Listed (after_reading file x)
-      go (Clean report) e = judged_listed report (read_right file report e)
-      go (Stopped r) e = of_lines r.number r.line (refused_by file r e)
+      go (Ok report) e = judged_listed report (read_right file report e)
+      go (Err r) e = of_lines r.number r.line (refused_by file r e)
 
 -- of two numbers, which are a refusal, the first is the table's
 abbrev InRanges : List ℕ → Type 0

@@ -65,7 +65,10 @@ fn judge(file: &[u8], s: Shape) -> Result<Quarter, Refusal>
     requires { Judgeable file.now s }
     ensures { told on_paper result ≡ judged file.now }
 {
-    verdict(file, s).map_err(|failure| failure.fault.at(failure_line(file, s, failure)))
+    match verdict(file, s) {
+        Ok(formed) => Ok(formed),
+        Err(failure) => Err(failure.fault.at(failure_line(file, s, failure))),
+    }
 }
 
 // What the check answers to a file: an acceptance, with the operating hours and totals, or a refusal.

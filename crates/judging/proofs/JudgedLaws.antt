@@ -1,6 +1,6 @@
 -- What a verdict says of the hours and of the totals: an acceptance, that there is no failure; a refusal with a rank, which hour fails first,
 -- and with which number; one with rank 0, which total differs first.
-use Rattle.std.specs.Prelude.{ℕ, zero, suc, ◌+◌, ◌≤◌, ◌<◌, ◌≡◌, refl, List, [], ◌∷◌, map, true, ◌⊎◌, drop}
+use Rattle.std.specs.Prelude.{ℕ, zero, suc, ◌+◌, ◌≤◌, ◌<◌, ◌≡◌, refl, List, [], ◌∷◌, map, true, ◌⊎◌, drop, Ok, Err}
 use Rattle.std.proofs.Common.{sym, ap₂, ◌∙◌, inl, inr, arith, eq-or-lt_of_le, add-one, lit≤, drop-cons, eqb-true, eq-eqb}
 use Rattle.std.proofs.Math.Path.{ap}
 use Rattle.std.proofs.Math.Logic.{⊎_elim}
@@ -15,25 +15,24 @@ use Rattle.judging.specs.Judged.{PaperRow, figure_of, figure_rows, figure_count,
 use Rattle.judging.specs.Judged.{stated_totals, failed_at, failed_or, hour_failure, judged_hours}
 use Rattle.judging.specs.Judged.{Verdict, said_same, totals_fault, compared_totals}
 use Rattle.judging.specs.JudgedPromise.{SaidAsFormed, total_clauses, FirstDiffers}
-use Rattle.std.specs.Prelude.{Ok as Accepted, Err as Refused}
 
-never_accepted : {A : Type 0} (number rank : ℕ) (r : Quarter) → failed_at number rank ≡ Accepted r → A
+never_accepted : {A : Type 0} (number rank : ℕ) (r : Quarter) → failed_at number rank ≡ Ok r → A
 never_accepted number rank r e = clash cc
 
 number_in : Verdict → ℕ
-number_in (Accepted r) = 0
-number_in (Refused r) = r.number
+number_in (Ok r) = 0
+number_in (Err r) = r.number
 
 rank_in : Verdict → ℕ
-rank_in (Accepted r) = 0
-rank_in (Refused r) = r.rank
+rank_in (Ok r) = 0
+rank_in (Err r) = r.rank
 
 same_failure : (a b c d : ℕ) → failed_at a b ≡ failed_at c d → (a ≡ c) × (b ≡ d)
 unfolding number_in rank_in
 same_failure a b c d e = (ap number_in e, ap rank_in e)
 
 -- what is known of a failure, or else of what follows
-or_accepted : (n rank : ℕ) (rest : Verdict) (r : Quarter) → failed_or n rank rest ≡ Accepted r → (n ≡ 0) × (rest ≡ Accepted r)
+or_accepted : (n rank : ℕ) (rest : Verdict) (r : Quarter) → failed_or n rank rest ≡ Ok r → (n ≡ 0) × (rest ≡ Ok r)
 or_accepted zero rank rest r e = (refl, e)
 or_accepted (suc c) rank rest r e = never_accepted (suc c) rank r e
 
@@ -82,7 +81,7 @@ hour_rises h = (lit≤ tt, (lit≤ tt, (lit≤ tt, (lit≤ tt, tt))))
 abbrev pub NoFailure : List Hour → Type 0
 NoFailure hs = All (λ (h : Hour). hour_failure h ≡ 0) hs
 
-pub hours_accepted : (rank : ℕ) (hs : List Hour) (rest : Verdict) (r : Quarter) → judged_hours rank hs rest ≡ Accepted r → NoFailure hs × (rest ≡ Accepted r)
+pub hours_accepted : (rank : ℕ) (hs : List Hour) (rest : Verdict) (r : Quarter) → judged_hours rank hs rest ≡ Ok r → NoFailure hs × (rest ≡ Ok r)
 unfolding judged_hours
 hours_accepted rank [] rest r e = (tt, e)
 hours_accepted rank (h ∷ hs) rest r e =
@@ -144,24 +143,24 @@ module _ (f s : Quarter) where
       told_rows (λ (t : Stated). t.number) (SaidAsFormed f s) (said_same f s) (λ t. eqb-true _ _) (λ t. eq-eqb _ _) stated_totals
       (lit≤ tt, (lit≤ tt, (lit≤ tt, (lit≤ tt, (lit≤ tt, tt)))))
 
-  pub totals_accepted : (r : Quarter) → compared_totals f s ≡ Accepted r → (f ≡ r) × Hold (total_clauses stated_totals f s)
+  pub totals_accepted : (r : Quarter) → compared_totals f s ≡ Ok r → (f ≡ r) × Hold (total_clauses stated_totals f s)
   unfolding compared_totals
   totals_accepted r e =
-      let o = or_accepted (totals_fault f s) 0 (Accepted f) r e in
+      let o = or_accepted (totals_fault f s) 0 (Ok f) r e in
       (accepted_same f r o.1, totals_told.right o.0)
     where
-      accepted_same : (a b : Quarter) → ◌≡◌ {A = Verdict} (Accepted a) (Accepted b) → a ≡ b
+      accepted_same : (a b : Quarter) → ◌≡◌ {A = Verdict} (Ok a) (Ok b) → a ≡ b
       accepted_same a b w = cc
 
-  pub totals_agree : Hold (total_clauses stated_totals f s) → compared_totals f s ≡ Accepted f
+  pub totals_agree : Hold (total_clauses stated_totals f s) → compared_totals f s ≡ Ok f
   unfolding compared_totals
-  totals_agree a = ap (λ (n : ℕ). failed_or n 0 (Accepted f)) (told_none (totals_fault f s) (total_clauses stated_totals f s) totals_told a)
+  totals_agree a = ap (λ (n : ℕ). failed_or n 0 (Ok f)) (told_none (totals_fault f s) (total_clauses stated_totals f s) totals_told a)
 
   pub totals_differ : (number rank : ℕ) → compared_totals f s ≡ failed_at number rank → (rank ≡ 0) × FirstDiffers stated_totals f s number
   unfolding compared_totals
   totals_differ number rank e =
       ⊎_elim (λ x. (x.0, rw x.3 (totals_told.wrong x.1 x.2))) (λ w. never_accepted number rank f (sym w.1))
-      (or_refused (totals_fault f s) 0 (Accepted f) number rank e)
+      (or_refused (totals_fault f s) 0 (Ok f) number rank e)
 
 -- the same totals are said as formed
 pub same_said : (ts : List Stated) {f s : Quarter} → f ≡ s → Hold (total_clauses ts f s)

@@ -1,5 +1,5 @@
 -- The promise holds of the verdict on every list of hours within their ranges. JudgedPromise.antt states it.
-use Rattle.std.specs.Prelude.{ℕ, ◌+◌, ◌≤◌, ◌<◌, ◌≡◌, refl, true, false, ◌⊎◌}
+use Rattle.std.specs.Prelude.{ℕ, ◌+◌, ◌≤◌, ◌<◌, ◌≡◌, refl, true, false, ◌⊎◌, Ok}
 use Rattle.std.proofs.Common.{sym, ap, subst, subst₂, ◌∙◌, arith, lit<}
 use Rattle.std.proofs.lemmas.Bool.{false≢true}
 use mathlib.Core.List.{List, [], ◌∷◌, Memᴰ}
@@ -27,7 +27,6 @@ use Rattle.judging.specs.JudgedPromise.OfRow.{of_hour, of_quarter}
 use Rattle.judging.proofs.JudgedLaws.{each_figure, Passes, hour_clauses, hour_told, hour_rises, NoFailure, hours_accepted, hours_pass, Failing, hours_refused}
 use Rattle.judging.proofs.JudgedLaws.{totals_accepted, totals_agree, totals_differ, same_said, said_same_lem}
 use Rattle.judging.proofs.HourLaws.{hour_behind, set_passes, tries, OfHours, rows_own}
-use Rattle.std.specs.Prelude.{Ok as Accepted}
 
 pass_behind : (q : Quantity) (hs : List Hour) → HoursWithin hs → NoFailure hs → (es : List (Entry q)) × LieBehind q hs es
 pass_behind q [] w p = ([], tt)
@@ -62,19 +61,19 @@ module _ (f : ℕ → Hour) (n : ℕ) (within : (k : ℕ) → k < n → HourWith
     pub formed : quarter_totals own ≡ r
     pub agree : Hold (total_clauses stated_totals (quarter_totals own) said)
 
-  accepting : (r : Quarter) → verdict ≡ Accepted r → Accepting r
+  accepting : (r : Quarter) → verdict ≡ Ok r → Accepting r
   unfolding judged_quarter
   accepting r e =
       let h = hours_accepted 1 own (compared_totals (quarter_totals own) said) r e in
       let t = totals_accepted (quarter_totals own) said r h.1 in
       record { pass = h.0; formed = t.0; agree = t.1 }
 
-  honest_accepted : (sets : List Unrounded) → SetsBehind own sets → said ≡ quarter_totals own → verdict ≡ Accepted (quarter_totals own)
+  honest_accepted : (sets : List Unrounded) → SetsBehind own sets → said ≡ quarter_totals own → verdict ≡ Ok (quarter_totals own)
   unfolding judged_quarter
   honest_accepted sets b e =
       hours_pass 1 own _ (behind_pass own sets all_within b) ∙ totals_agree (quarter_totals own) said (same_said stated_totals (sym e))
 
-  count_of_lem : (r : Quarter) → verdict ≡ Accepted r → r.hours ≡ n
+  count_of_lem : (r : Quarter) → verdict ≡ Ok r → r.hours ≡ n
   count_of_lem r e = ap (λ (y : Quarter). y.hours) (sym (accepting r e).formed) ∙ quarter_hours own ∙ ranked_length f 0 n
 
   -- what a refusal says: of an hour, or else of the totals

@@ -1,5 +1,5 @@
 -- How the hours and the totals of a quarter are judged: by lists of hours, without a file and without a sheet. It computes.
-use Rattle.std.specs.Prelude.{ℕ, zero, suc, List, [], ◌∷◌, map, Bool, cond, eqb, length, get_or, Option, None, Some, Result}
+use Rattle.std.specs.Prelude.{ℕ, zero, suc, List, [], ◌∷◌, map, Bool, cond, eqb, length, get_or, Option, None, Some, Result, Ok, Err}
 use Rattle.exact.specs.Faults.{first_failing}
 use Rattle.layout.specs.declared.RecordType.{RecordType}
 use Rattle.layout.specs.declared.RecordType.TheVariants.{Operation, QuarterTotals, So2Mass, NoxRate, Co2Mass}
@@ -12,7 +12,6 @@ use Rattle.totals.specs.declared.Quarter.{Quarter}
 use Rattle.refusals.specs.Refusals.{fault_number}
 use Rattle.judging.specs.declared.FigureRow.{FigureRow}
 use Rattle.judging.specs.declared.Failure.{Failure}
-use Rattle.std.specs.Prelude.{Ok as Accepted, Err as Refused}
 
 -- the figure of an hour as the paper has it: its refusal by its number
 pub record PaperRow : Type 0 where
@@ -104,11 +103,11 @@ acceptance r = r.hours ∷ map (λ (t : Stated). t.amount r) stated_totals
 
 -- what a verdict says: these, or number and rank
 abbrev pub verdict_numbers : Verdict → List ℕ
-verdict_numbers (Accepted r) = acceptance r
-verdict_numbers (Refused f) = f.number ∷ f.rank ∷ []
+verdict_numbers (Ok r) = acceptance r
+verdict_numbers (Err f) = f.number ∷ f.rank ∷ []
 
 abbrev pub failed_at : (number rank : ℕ) → Verdict
-failed_at number rank = Refused (record { number = number; rank = rank })
+failed_at number rank = Err (record { number = number; rank = rank })
 
 -- a failure, or else what follows
 abbrev pub failed_or : (number rank : ℕ) → Verdict → Verdict
@@ -136,7 +135,7 @@ totals_fault formed said = first_failing (said_same formed said) (λ (t : Stated
 
 -- accepted where there is no fault; a total has rank 0
 unfoldable pub compared_totals : (formed said : Quarter) → Verdict
-compared_totals formed said = failed_or (totals_fault formed said) 0 (Accepted formed)
+compared_totals formed said = failed_or (totals_fault formed said) 0 (Ok formed)
 
 -- the hours in their order, of ranks from 1, then the totals
 unfoldable pub judged_quarter : List Hour → (said : Quarter) → Verdict

@@ -2,7 +2,7 @@
 -- behind accepted ones stand unrounded readings; whichever they are, the exact amounts lie within the stated bounds of the reported ones; a
 -- figure is refused only where nothing unrounded lies behind it, and a total only where it differs from the one formed. The promise of the
 -- check is made of it. JudgedPromiseLaws.antt proves it.
-use Rattle.std.specs.Prelude.{ℕ, suc, ◌<◌, ◌≡◌}
+use Rattle.std.specs.Prelude.{ℕ, suc, ◌<◌, ◌≡◌, Ok}
 use mathlib.Core.List.{List, Memᴰ}
 use Rattle.std.proofs.Common.{lit<}
 use Rattle.exact.specs.Logic.{ranked, All}
@@ -18,7 +18,6 @@ use Rattle.totals.specs.Mass.{mass_tons}
 use Rattle.totals.specs.declared.Quarter.{Quarter}
 use Rattle.judging.specs.Judged.{Verdict, number_for, Tried, figures_tried, Stated, stated_totals, failed_at}
 use Rattle.judging.specs.Behind.{LieBehind, SetsBehind, exact_amount, reported, allowed}
-use Rattle.std.specs.Prelude.{Ok as Accepted}
 
 -- a total is said as it is formed
 abbrev pub SaidAsFormed : (formed said : Quarter) → Stated → Type 0
@@ -58,15 +57,15 @@ module _ (f : ℕ → Hour) (n : ℕ) where
     pub first : FirstDiffers stated_totals (quarter_totals hs) said number
 
   pub record JudgedPromise (said : Quarter) (v : Verdict) : Type 0 where
-    pub honest : (sets : List Unrounded) → SetsBehind hs sets → said ≡ quarter_totals hs → v ≡ Accepted (quarter_totals hs)
-    pub behind : (r : Quarter) → v ≡ Accepted r → (q : Quantity) → (es : List (Entry q)) × LieBehind q hs es
-    pub bounds : (r : Quarter) → v ≡ Accepted r → (q : Quantity) (es : List (Entry q)) → LieBehind q hs es →
+    pub honest : (sets : List Unrounded) → SetsBehind hs sets → said ≡ quarter_totals hs → v ≡ Ok (quarter_totals hs)
+    pub behind : (r : Quarter) → v ≡ Ok r → (q : Quantity) → (es : List (Entry q)) × LieBehind q hs es
+    pub bounds : (r : Quarter) → v ≡ Ok r → (q : Quantity) (es : List (Entry q)) → LieBehind q hs es →
         Near (exact_amount q hs es) (reported q r) (allowed q r.hours)
     -- NOx tons are of recorded figures: no hour has a share in the bound
-    pub mass : (r : Quarter) → v ≡ Accepted r → Near (mass_tons hs) (recorded tenth r.nox_tons) (fraction 1 20 (lit< tt))
+    pub mass : (r : Quarter) → v ≡ Ok r → Near (mass_tons hs) (recorded tenth r.nox_tons) (fraction 1 20 (lit< tt))
     pub rightly : (q : Quantity) (rank : ℕ) → v ≡ failed_at (number_for q) rank → FailsFirst q rank
     pub differs : All (λ (t : Stated). (rank : ℕ) → v ≡ failed_at t.number rank → DiffersFirst said t.number rank) stated_totals
     pub rows : (number rank : ℕ) → v ≡ failed_at number rank → OfRow n number rank
-    pub count : (r : Quarter) → v ≡ Accepted r → r.hours ≡ n
-    pub formed : (r : Quarter) → v ≡ Accepted r → r ≡ quarter_totals hs
-    pub totals : (r : Quarter) → v ≡ Accepted r → said.hours ≡ n → r ≡ said
+    pub count : (r : Quarter) → v ≡ Ok r → r.hours ≡ n
+    pub formed : (r : Quarter) → v ≡ Ok r → r ≡ quarter_totals hs
+    pub totals : (r : Quarter) → v ≡ Ok r → said.hours ≡ n → r ≡ said

@@ -1,9 +1,8 @@
 -- The line that the program prints for an answer: a word, a space and a decimal number for each number of the answer, byte 10. It computes.
-use Rattle.std.specs.Prelude.{ℕ, zero, suc, ◌+◌, ◌*◌, ◌/◌, List, [], ◌∷◌, ◌++◌, true, false, ltb}
+use Rattle.std.specs.Prelude.{ℕ, zero, suc, ◌+◌, ◌*◌, ◌/◌, List, [], ◌∷◌, ◌++◌, true, false, ltb, Ok, Err}
 use Rattle.columns.specs.Written.{digits_of}
 use Rattle.checker.specs.Checked.{answer_numbers}
 use Rattle.checker.specs.Checked.{Answer}
-use Rattle.std.specs.Prelude.{Ok as Accepted, Err as Refused}
 
 -- how many digits a number has that are no needless zeros, if so many steps suffice
 unfoldable pub digit_count_in : ℕ → ℕ → ℕ
@@ -29,8 +28,8 @@ printed_line word numbers = word ++ (all_spaced numbers ++ (10 ∷ []))
 
 -- "accepted" and "refused"
 abbrev pub outcome_word : Answer → List ℕ
-outcome_word (Accepted quarter) = 97 ∷ 99 ∷ 99 ∷ 101 ∷ 112 ∷ 116 ∷ 101 ∷ 100 ∷ []
-outcome_word (Refused refusal) = 114 ∷ 101 ∷ 102 ∷ 117 ∷ 115 ∷ 101 ∷ 100 ∷ []
+outcome_word (Ok quarter) = 97 ∷ 99 ∷ 99 ∷ 101 ∷ 112 ∷ 116 ∷ 101 ∷ 100 ∷ []
+outcome_word (Err refusal) = 114 ∷ 101 ∷ 102 ∷ 117 ∷ 115 ∷ 101 ∷ 100 ∷ []
 
 abbrev pub printed : Answer → List ℕ
 printed answer = printed_line (outcome_word answer) (answer_numbers answer)

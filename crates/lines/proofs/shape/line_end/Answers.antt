@@ -1,4 +1,4 @@
-use Rattle.std.proofs.Common.{◌≡◌, ◌∙◌}
+use Rattle.std.proofs.Common.{◌∙◌}
 use Rattle.lines.proofs.Ends.{line_position}
 use Rattle.lines.proofs.shape.line_end.Goals as goal
 

@@ -1,5 +1,5 @@
 -- The faults of a line's shape, in their order; a line that is at once seen to be right has none.
-use Rattle.std.proofs.Common.{◌≡◌, ℕ, List, sym, ap, ◌∙◌, Bool, true, false, arith, length, take, rules}
+use Rattle.std.proofs.Common.{◌≡◌, ℕ, List, sym, ap, ◌∙◌, Bool, true, false, arith, length, take}
 use lib.Seq.{length-take-le}
 use Rattle.columns.specs.Bytes.{is_printable, all}
 use Rattle.lines.specs.Lines.{first_line}
