@@ -3,8 +3,9 @@
 
 ghost use Rattle.std.specs.Prelude.{◌≡◌, ◌<◌, length};
 ghost use Rattle.columns.specs.Number.{number_of};
-ghost use Rattle.layout.specs.Layout.{value_count, value_at, count_of};
-ghost use Rattle.lines.specs.LineFaults.{field_in, has_gas};
+ghost use Rattle.layout.specs.Layout.{length_of, value_count, value_at, count_of};
+ghost use Rattle.lines.specs.LineFaults.{field_in};
+ghost use Rattle.lines.specs.FaultLaws.{ValuesFormed};
 ghost use Rattle.reading.specs.Recorded.{records_of, hour_at, totals_in};
 ghost use Rattle.reading.specs.Places.{line_at, Standing, operating_from, operating_place, Stands};
 ghost use Rattle.recorded.specs.ListedHours.{listed_hour};
@@ -13,23 +14,38 @@ use formulas::hour::{Figures, Hour, Readings};
 use layout::{RecordType, Run, Shape, values};
 use totals::Quarter;
 
-// The i-th value on the line at a place of a type's run, from 0, in a file of a shape whose lines are right.
-fn value_in(file: &[u8], s: Shape, t: RecordType, p: usize, i: usize) -> u64
-    requires { Standing file.now s × (p < count_of s t) × (i < value_count t) }
-    ensures { result ≡ number_of (field_in (value_at t i) (line_at file.now s t p).text) }
-{
-    let v = layout::value_at(t, i);
-    let start = layout::offset_of(s, t, p) + v.start;
-    columns::worth(file, start, v.width, v.decimals)
+// A line of a type, none of whose values is malformed.
+#[derive(Clone, Copy)]
+struct Line<'a> {
+    record_type: RecordType,
+    text: &'a [u8],
+    ghost whole: { length text.now ≡ length_of record_type },
+    ghost formed: { ValuesFormed record_type text.now },
 }
 
-// Whether the 310 line of operating hour k has GAS, in a file of a shape whose lines are right.
-fn gas_in(file: &[u8], s: Shape, k: usize) -> bool
-    requires { Standing file.now s × (k < s.hours) }
-    ensures { result ≡ has_gas (line_at file.now s RecordType.So2Mass k).text }
+impl Line<'_> {
+    // The i-th value, from 0. Inlined, as the line is: its columns are then constants.
+    #[inline(always)]
+    fn value(self, i: usize) -> u64
+        requires { i < value_count self.record_type }
+        ensures { result ≡ number_of (field_in (value_at self.entry.record_type i) self.entry.text.now) }
+    {
+        let v = layout::value_at(self.record_type, i);
+        columns::worth(self.text, v.start, v.width, v.decimals)
+    }
+}
+
+// The line at a place of a type's run, from 0, in a file of a shape whose lines are right.
+#[inline(always)]
+fn line_at(file: &[u8], s: Shape, t: RecordType, p: usize) -> Line<'_>
+    requires { Standing file.now s × (p < count_of s t) }
+    ensures { (result.record_type ≡ t) × (result.text.now ≡ (line_at file.now s t p).text) }
 {
-    let from = layout::offset_of(s, RecordType::So2Mass, k);
-    lines::gas::has_gas(&file[from..from + layout::SO2_MASS_LENGTH])
+    let from = layout::offset_of(s, t, p);
+    Line {
+        record_type: t,
+        text: &file[from..from + layout::line_length(t)],
+    }
 }
 
 // An operating hour among the 300 lines: the place of its line, from 0, and its time.
@@ -45,7 +61,7 @@ pub fn operating_from(file: &[u8], s: Shape, p: usize) -> ListedHour
     ensures { result ≡ listed_hour file.now s (operating_place file.now s p) }
 {
     for place in p..s.operations {
-        let time = value_in(file, s, RecordType::Operation, place, 0);
+        let time = line_at(file, s, RecordType::Operation, place).value(0);
         if time != 0 {
             return ListedHour { place, time };
         }
@@ -82,21 +98,23 @@ pub fn hour(file: &[u8], s: Shape, k: usize, at: ListedHour) -> Hour
         × (at ≡ listed_hour file.now s at.place) }
     ensures { result ≡ hour_at file.now k }
 {
+    let mass = line_at(file, s, RecordType::So2Mass, k);
+    let rate = line_at(file, s, RecordType::NoxRate, k);
     Hour {
         time: at.time,
-        gas: gas_in(file, s, k),
+        gas: lines::gas::has_gas(mass.text),
         readings: Readings {
-            so2: value_in(file, s, RecordType::So2Concentration, k, 0),
-            nox: value_in(file, s, RecordType::NoxConcentration, k, 0),
-            co2: value_in(file, s, RecordType::Co2Concentration, k, 0),
-            flow: values::thousands_of(value_in(file, s, RecordType::VolumetricFlow, k, 0)),
-            fc: value_in(file, s, RecordType::NoxRate, k, 0),
+            so2: line_at(file, s, RecordType::So2Concentration, k).value(0),
+            nox: line_at(file, s, RecordType::NoxConcentration, k).value(0),
+            co2: line_at(file, s, RecordType::Co2Concentration, k).value(0),
+            flow: values::thousands_of(line_at(file, s, RecordType::VolumetricFlow, k).value(0)),
+            fc: rate.value(0),
         },
         figures: Figures {
-            heat: value_in(file, s, RecordType::Operation, at.place, 1),
-            so2: value_in(file, s, RecordType::So2Mass, k, 0),
-            nox: value_in(file, s, RecordType::NoxRate, k, 1),
-            co2: value_in(file, s, RecordType::Co2Mass, k, 0),
+            heat: line_at(file, s, RecordType::Operation, at.place).value(1),
+            so2: mass.value(0),
+            nox: rate.value(1),
+            co2: line_at(file, s, RecordType::Co2Mass, k).value(0),
         },
     }
 }
@@ -106,12 +124,13 @@ pub fn totals(file: &[u8], s: Shape) -> Quarter
     requires { Standing file.now s }
     ensures { result ≡ totals_in file.now }
 {
+    let line = line_at(file, s, RecordType::QuarterTotals, 0);
     Quarter {
         hours: s.hours as u64,
-        so2: value_in(file, s, RecordType::QuarterTotals, 0, 0),
-        co2: value_in(file, s, RecordType::QuarterTotals, 0, 1),
-        heat: value_in(file, s, RecordType::QuarterTotals, 0, 2),
-        nox: value_in(file, s, RecordType::QuarterTotals, 0, 3),
-        nox_tons: value_in(file, s, RecordType::QuarterTotals, 0, 4),
+        so2: line.value(0),
+        co2: line.value(1),
+        heat: line.value(2),
+        nox: line.value(3),
+        nox_tons: line.value(4),
     }
 }

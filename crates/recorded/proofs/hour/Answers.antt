@@ -12,6 +12,7 @@ use Rattle.reading.specs.Recorded.{Line, record_at, value_on, hour_at}
 use Rattle.reading.specs.Places.{line_at, Standing}
 use Rattle.reading.specs.RankLaws.{value_stands, hour_stands}
 use Rattle.recorded.specs.declared.ListedHour.{ListedHour}
+use Rattle.recorded.proofs.LineLaws.{on_line}
 use Rattle.recorded.proofs.hour.Goals as goal
 
 -- the values of the hour's records, by rank
@@ -32,18 +33,18 @@ returns c =
     λ t e. ranked x.file.now x.s c.requires.0 t e x.k c.requires.1 in
     λ i. record {
       time = (ap (λ (at : ListedHour). at.time) c.requires.3 ∙ listed 0) i;
-      gas = (c.gas_in.ensures ∙ ap has_gas (own_text x.file.now x.s c.requires.0 So2Mass refl x.k c.requires.1)) i;
+      gas = (c.has_gas.ensures ∙ ap has_gas (c.line_at-mass.ensures.1 ∙ own_text x.file.now x.s c.requires.0 So2Mass refl x.k c.requires.1)) i;
       readings = record {
-        so2 = (c.value_in.ensures ∙ own So2Concentration refl 0) i;
-        nox = (c.value_in-2.ensures ∙ own NoxConcentration refl 0) i;
-        co2 = (c.value_in-3.ensures ∙ own Co2Concentration refl 0) i;
-        flow = (c.thousands_of.ensures ∙ ap thousands_of (c.value_in-4.ensures ∙ own VolumetricFlow refl 0)) i;
-        fc = (c.value_in-5.ensures ∙ own NoxRate refl 0) i;
+        so2 = (c.value.ensures ∙ on_line c.line_at.ensures 0 ∙ own So2Concentration refl 0) i;
+        nox = (c.value-2.ensures ∙ on_line c.line_at-2.ensures 0 ∙ own NoxConcentration refl 0) i;
+        co2 = (c.value-3.ensures ∙ on_line c.line_at-3.ensures 0 ∙ own Co2Concentration refl 0) i;
+        flow = (c.thousands_of.ensures ∙ ap thousands_of (c.value-4.ensures ∙ on_line c.line_at-4.ensures 0 ∙ own VolumetricFlow refl 0)) i;
+        fc = (c.value-5.ensures ∙ on_line c.line_at-rate.ensures 0 ∙ own NoxRate refl 0) i;
       };
       figures = record {
-        heat = (c.value_in-6.ensures ∙ listed 1) i;
-        so2 = (c.value_in-7.ensures ∙ own So2Mass refl 0) i;
-        nox = (c.value_in-8.ensures ∙ own NoxRate refl 1) i;
-        co2 = (c.value_in-9.ensures ∙ own Co2Mass refl 0) i;
+        heat = (c.value-6.ensures ∙ on_line c.line_at-5.ensures 1 ∙ listed 1) i;
+        so2 = (c.value-7.ensures ∙ on_line c.line_at-mass.ensures 0 ∙ own So2Mass refl 0) i;
+        nox = (c.value-8.ensures ∙ on_line c.line_at-rate.ensures 1 ∙ own NoxRate refl 1) i;
+        co2 = (c.value-9.ensures ∙ on_line c.line_at-6.ensures 0 ∙ own Co2Mass refl 0) i;
       };
     }
