@@ -60,7 +60,7 @@ pub record Facts (file : List ℕ) (r : Quarter) : Type 0 where
 answer_accepted : (file : List ℕ) (v : Verdict) (r : Quarter) → answer_of file v ≡ Ok r → v ≡ Ok r
 answer_accepted file (Ok q) r e = ap Ok (same q r e)
   where
-    same : (a b : Quarter) → Ok a ≡ Ok b → a ≡ b
+    same : (a b : Quarter) → ◌≡◌ {A = Answer} (Ok a) (Ok b) → a ≡ b
     same a b w = cc
 answer_accepted file (Err f) r e = never_accepted f.number (line_named file f.number f.rank) r e
 

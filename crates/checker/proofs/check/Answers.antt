@@ -1,0 +1,28 @@
+-- The answer is the definition's, and the promise holds of that.
+use Rattle.std.proofs.Common.{◌≡◌, List, ℕ, sym, ap, ◌∙◌}
+use Rattle.reading.specs.RightFileLaws.{read_right}
+use Rattle.refusals.proofs.There.{exit_there}
+use Rattle.checker.specs.Checked.{Answer, after_reading, checked}
+use Rattle.checker.specs.Promise.{Promise}
+use Rattle.checker.proofs.JudgingLaws.{right_judgeable}
+use Rattle.checker.proofs.PromiseLaws.{promise}
+use Rattle.checker.proofs.check.Goals as goal
+
+kept : (file : List ℕ) (r : Answer) → r ≡ checked file → (r ≡ checked file) × Promise file r
+kept file r e = (e, rw e (promise file))
+
+pub returns-in_err-report : goal.returns-in_err-report
+unfolding after_reading checked
+returns-in_err-report c =
+    let file = c.args.file.now in
+    rw (exit_there c.from_residual.result c.in_err-report.field-0.0 c.from_residual.ensures.1)
+    (kept file _ (ap (after_reading file) c.in_err-report.ensures))
+
+pub judge-requires : goal.judge-requires
+judge-requires c = let file = c.args.file.now in right_judgeable file _ (read_right file _ (sym c.in_ok-report.ensures))
+
+pub returns : goal.returns
+unfolding after_reading checked
+returns c =
+    let file = c.args.file.now in
+    kept file _ (c.judge.ensures ∙ ap (after_reading file) c.in_ok-report.ensures)
