@@ -44,10 +44,8 @@ pub fn print_line(line: &mut [u8], word: &[u8], numbers: &[u64]) -> usize
 {
     filling::write_bytes(line, 1, word);
     let mut column = 1 + word.len();
-    let mut i = 0;
-    while i < numbers.len() {
-        column = print_number(line, column, numbers[i]);
-        i += 1;
+    for number in numbers {
+        column = print_number(line, column, *number);
     }
     filling::write_bytes(line, column, b"\n");
     column
