@@ -9,7 +9,7 @@ ghost use Rattle.columns.specs.Worth.{low_from, fixed_worth, worth_of};
 ghost use Rattle.columns.specs.Picture.{FitsFrom, Fits};
 
 // What a field of columns holds.
-#[derive(Clone, Copy)]
+#[derive(Clone, Copy, PartialEq, Eq, Debug)]
 pub enum Field {
     Blank,
     Malformed,

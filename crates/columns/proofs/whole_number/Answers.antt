@@ -10,10 +10,12 @@ digits_behind-requires c = rw part_end (room_none _ (rw length-drop (omega arith
 
 pub returns-in-Some : goal.returns-in-Some
 returns-in-Some c =
-    let e = position_from_yields_List other _ _ c.position.result c.position.ensures.ran (YieldsList-from_slice c.args.bytes.now (cc)) (λ x b q k. search (rules, tests)) in
+    let bytes = YieldsList-from_slice c.args.bytes.now (cc) in
+    let e = position_from_yields_List other _ _ c.position.result c.position.ensures.ran bytes (λ x b q k. search (rules, tests)) in
     c.digits_behind.ensures ∙ whole_at _ _ (sym e ∙ c.in-Some.is)
 
 pub returns-in-None : goal.returns-in-None
 returns-in-None c =
-    let e = position_from_yields_List other _ _ c.position.result c.position.ensures.ran (YieldsList-from_slice c.args.bytes.now (cc)) (λ x b q k. search (rules, tests)) in
+    let bytes = YieldsList-from_slice c.args.bytes.now (cc) in
+    let e = position_from_yields_List other _ _ c.position.result c.position.ensures.ran bytes (λ x b q k. search (rules, tests)) in
     whole_none _ (sym e ∙ c.in-None.is)
