@@ -15,9 +15,9 @@ pub record Left (before : ℕ) (bytes : List ℕ) (v i : ℕ) : Type 0 where
 pub left_first : (before : ℕ) (bytes : List ℕ) → (before + 1) * 10 ^ length bytes ≤ 10 ^ 18 → Left before bytes before 0
 left_first before bytes h = record { within = omega arith; room = rw sub-zero h; same = refl }
 
--- what is more than 9 above 48, modulo 256, is no digit
-no_digit : (d b : ℕ) → (d + 48) % 2 ^ 8 ≡ b → d < 2 ^ 8 → 9 < d → is_digit b ≡ false
-no_digit d b e h k = go (dec_lt b 48)
+-- a byte's distance above 48, modulo 256, tells whether it is a digit
+no_digit : (b : ℕ) → b < 2 ^ 8 → 9 < (b + 208) % 256 → is_digit b ≡ false
+no_digit b f k = go (dec_lt b 48)
   where
     go : Dec (b < 48) → is_digit b ≡ false
     go (yes low) = below 48 57 b low
@@ -26,25 +26,24 @@ no_digit d b e h k = go (dec_lt b 48)
 pub left_end : (before : ℕ) (bytes : List ℕ) (v i : ℕ) → Left before bytes v i → length bytes ≤ i → Number v ≡ digits_from before bytes
 left_end before bytes v i l h = sym (sym l.same ∙ digits_end bytes i h v)
 
--- a byte read is d above 48, modulo 256; where that equation comes first in what follows, the lemma is found by it
-module _ (before : ℕ) (bytes : List ℕ) (v i d : ℕ) (l : Left before bytes v i) (inside : i < length bytes) where
-  pub left_stop : (e : (d + 48) % 2 ^ 8 ≡ get_or bytes i 0) → d < 2 ^ 8 → 9 < d → ((d + 48) % 2 ^ 8 ≡ get_or bytes i 0) × (Malformed ≡ digits_from before bytes)
-  left_stop e h k = (e, sym (sym l.same ∙ digits_stop bytes i inside v (no_digit d (get_or bytes i 0) e h k)))
+module _ (before : ℕ) (bytes : List ℕ) (v i : ℕ) (l : Left before bytes v i) (inside : i < length bytes) where
+  pub left_stop : get_or bytes i 0 < 2 ^ 8 → 9 < (get_or bytes i 0 + 208) % 256 → Malformed ≡ digits_from before bytes
+  left_stop f k = sym (sym l.same ∙ digits_stop bytes i inside v (no_digit (get_or bytes i 0) f k))
 
   room : (v + 1) * 10 ^ suc (length bytes - (i + 1)) ≤ 10 ^ 18
   room =
       let e : suc (length bytes - (i + 1)) ≡ length bytes - i = omega arith in
       rw e l.room
 
-  pub left_room : d ≤ 9 → v * 10 + d < 2 ^ 64
-  left_room h = omega (arith, room_ten v (length bytes - (i + 1)) (10 ^ 18) room)
+  pub left_room : (d : ℕ) → d ≤ 9 → v * 10 + d < 2 ^ 64
+  left_room d h = omega (arith, room_ten v (length bytes - (i + 1)) (10 ^ 18) room)
 
-  pub left_next : (d + 48) % 2 ^ 8 ≡ get_or bytes i 0 → d ≤ 9 → Left before bytes (v * 10 + d) (i + 1)
-  left_next e h =
-      let f : d ≡ get_or bytes i 0 - 48 = omega arith in
+  pub left_next : (d : ℕ) → get_or bytes i 0 < 2 ^ 8 → d ≡ (get_or bytes i 0 + 208) % 256 → d ≤ 9 → Left before bytes (v * 10 + d) (i + 1)
+  left_next d f e h =
+      let k : d ≡ get_or bytes i 0 - 48 = omega arith in
       let g = leb_both 48 57 (get_or bytes i 0) (omega arith) (omega arith) in
       record {
         within = omega arith;
         room = room_one v (length bytes - (i + 1)) (10 ^ 18) room d h;
-        same = ap (λ (k : ℕ). digits_from (v * 10 + k) (drop (i + 1) bytes)) f ∙ digits_one bytes i inside v g ∙ l.same;
+        same = ap (λ (k : ℕ). digits_from (v * 10 + k) (drop (i + 1) bytes)) k ∙ digits_one bytes i inside v g ∙ l.same;
       }

@@ -1,9 +1,12 @@
 -- Laws of the loops that read: one byte further, a byte that ends them, and the end.
-use Rattle.std.proofs.Common.{◌≡◌, ℕ, suc, ◌+◌, ◌-◌, ◌*◌, ◌^◌, ◌<◌, ◌≤◌, Bool, true, false, ◌&&◌, eqb, leb, List, ◌∷◌, length, get_or, take, drop, sym, refl, ap, ◌∙◌, mul-le-mul_right, mul-le-mul_left, pow-suc, add-one, arith, lit<, length-drop, drop_of_length-le, length-take-le, drop-cons, pow-add, eq-eqb, ne_eqb, le-leb}
+use Rattle.std.specs.List.{fold, zip, list_all, position, position_or_len}
+use Rattle.std.specs.Prelude.{cond, nat_eq, not, Some, None}
+use native.Mathlib.Decide.{dec_lt}
+use Rattle.std.proofs.Common.{[], ◌≡◌, ℕ, suc, ◌+◌, ◌-◌, ◌*◌, ◌^◌, ◌<◌, ◌≤◌, Bool, true, false, ◌&&◌, leb, List, ◌∷◌, length, get_or, take, drop, sym, refl, ap, ◌∙◌, mul-le-mul_right, mul-le-mul_left, pow-suc, add-one, arith, lit<, length-drop, drop_of_length-le, length-take-le, drop-cons, pow-add, eq-eqb, ne_eqb, le-leb}
 use native.Mathlib.Nat.{add-sub_cancel_left, one-le-pow, pow-le-pow_right}
-use borrow.Author.Tests.{lt-leb}
+use borrow.Author.Tests.{lt-leb, lt-ltb, le-ltb}
 use Rattle.columns.proofs.ColumnsLaws.{part_end}
-use Rattle.columns.specs.Bytes.{is_blank, is_digit, is_printable, all, same}
+use Rattle.columns.specs.Bytes.{is_blank, is_digit, all, same}
 use Rattle.columns.specs.Number.{point_in, digits_from, whole_of, decimals_behind, fixed_of}
 use Rattle.columns.specs.Columns.{columns}
 use Rattle.columns.proofs.NumberLaws.{whole_bound}
@@ -46,28 +49,14 @@ module _ (l : List ℕ) (i : ℕ) (inside : i < length l) where
   whole_digits e = rw (drop-cons l i 0 inside, ne_eqb (get_or l i 0) 32 e, whole_of)
 
   -- without a way out: what was found so far, and what is left
-  pub same_one : (m : List ℕ) → i < length m → (fine : Bool) →
-      (fine && eqb (get_or l i 0) (get_or m i 0)) && same (drop (i + 1) l) (drop (i + 1) m) ≡ fine && same (drop i l) (drop i m)
-  unfolding same
-  same_one m h fine =
-      rw (drop-cons l i 0 inside, drop-cons m i 0 h, add-one i) (go fine (eqb (get_or l i 0) (get_or m i 0)) (same (drop (suc i) l) (drop (suc i) m)))
+  pub found_one : (p : ℕ → Bool) (fine : Bool) → (fine && p (get_or l i 0)) && all p (drop (i + 1) l) ≡ fine && all p (drop i l)
+  unfolding all
+  found_one p fine = rw (drop-cons l i 0 inside, add-one i) (go fine (p (get_or l i 0)) (all p (drop (suc i) l)))
     where
       go : (f a r : Bool) → (f && a) && r ≡ f && elim a [ true ↦ r | false ↦ false ]
       go true true r = refl
       go true false r = refl
       go false a r = refl
-
-  pub printable_one : (fine : Bool) →
-      ((fine && leb 32 (get_or l i 0)) && leb (get_or l i 0) 126) && all is_printable (drop (i + 1) l) ≡ fine && all is_printable (drop i l)
-  unfolding all
-  printable_one fine =
-      rw (drop-cons l i 0 inside, add-one i) (go fine (leb 32 (get_or l i 0)) (leb (get_or l i 0) 126) (all is_printable (drop (suc i) l)))
-    where
-      go : (f a b r : Bool) → ((f && a) && b) && r ≡ f && elim (a && b) [ true ↦ r | false ↦ false ]
-      go true true true r = refl
-      go true true false r = refl
-      go true false b r = refl
-      go false a b r = refl
 
 module _ (l : List ℕ) (i : ℕ) (past : length l ≤ i) where
   pub all_end : (p : ℕ → Bool) → all p (drop i l) ≡ true
@@ -82,22 +71,93 @@ module _ (l : List ℕ) (i : ℕ) (past : length l ≤ i) where
   unfolding whole_of
   whole_end = rw (drop_of_length-le l past)
 
-  pub same_end : (m : List ℕ) → length m ≤ i → same (drop i l) (drop i m) ≡ true
-  unfolding same
-  same_end m h = rw (drop_of_length-le l past, drop_of_length-le m h)
-
 -- what was found stands where nothing is left
 pub found_end : (fine rest : Bool) → rest ≡ true → fine ≡ fine && rest
 found_end true rest e = sym e
 found_end false rest e = refl
 
--- lists of other lengths are not the same
-pub same_length : (l m : List ℕ) → (length l ≡ length m → ⊥) → same l m ≡ false
-same_length l m h = go (same l m) refl
+-- std's tests of whole lists decide as those of this crate
+next : (t a b : Bool) → a ≡ b → t && a ≡ elim t [ true ↦ b | false ↦ false ]
+next true a b e = e
+next false a b e = refl
+
+abbrev pub with_pair : Bool → ℕ × ℕ → Bool
+with_pair fine p = fine && nat_eq p.0 p.1
+
+pair_one : (t a : Bool) (b c : List ℕ) → ((u : Bool) → fold with_pair u (zip b c) ≡ u && same b c) →
+    fold with_pair (t && a) (zip b c) ≡ t && elim a [ true ↦ same b c | false ↦ false ]
+pair_one true true b c h = h true
+pair_one true false b c h = h false
+pair_one false a b c h = h false
+
+pairs_same : (a b : List ℕ) → length a ≡ length b → (t : Bool) → fold with_pair t (zip a b) ≡ t && same a b
+unfolding same
+pairs_same [] [] h true = refl
+pairs_same [] [] h false = refl
+pairs_same [] (y ∷ ys) h t = absurd (omega arith)
+pairs_same (x ∷ xs) [] h t = absurd (omega arith)
+pairs_same (x ∷ xs) (y ∷ ys) h t = pair_one t (nat_eq x y) xs ys (pairs_same xs ys (omega arith))
+
+module _ (a b : List ℕ) where
+  pub same_folded : (r : Bool) → length a ≡ length b → r ≡ fold with_pair true (zip a b) → r ≡ same a b
+  same_folded r h e = e ∙ pairs_same a b h true
+
+  pub same_lengths : (length a ≡ length b → ⊥) → nat_eq (length a) (length b) ≡ same a b
+  same_lengths h = go (same a b) refl
+    where
+      go : (t : Bool) → same a b ≡ t → nat_eq (length a) (length b) ≡ t
+      go true e = absurd (h (ap length ((same_eq a b).0 e)))
+      go false e = ne_eqb (length a) (length b) h
+
+pub all_is : (p : ℕ → Bool) (l : List ℕ) → list_all p l ≡ all p l
+unfolding all
+all_is p [] = refl
+all_is p (x ∷ xs) = next (p x) _ _ (all_is p xs)
+
+-- a number begins at the first byte that is no blank
+abbrev pub other : ℕ → Bool
+other b = not (is_blank b)
+
+abbrev begins : List ℕ → ℕ
+begins l = position_or_len other l
+
+whole_behind : (l : List ℕ) → begins l < length l → whole_of l ≡ digits_from 0 (drop (begins l) l)
+unfolding whole_of
+whole_behind [] h = absurd (omega arith)
+whole_behind (b ∷ bs) h = go (is_blank b) h (whole_behind bs)
   where
-    go : (t : Bool) → same l m ≡ t → t ≡ false
-    go true e = absurd (h (ap length ((same_eq l m).0 e)))
-    go false e = refl
+    go : (t : Bool) → cond (not (not t)) (1 + begins bs) 0 < suc (length bs) → (begins bs < length bs → whole_of bs ≡ digits_from 0 (drop (begins bs) bs)) →
+        elim t [ true ↦ whole_of bs | false ↦ digits_from 0 (b ∷ bs) ] ≡ digits_from 0 (drop (cond (not (not t)) (1 + begins bs) 0) (b ∷ bs))
+    go true k w = let e : 1 + begins bs ≡ suc (begins bs) = omega arith in rw e (w (omega arith))
+    go false k w = refl
+
+whole_blanks : (l : List ℕ) → length l ≤ begins l → whole_of l ≡ Blank
+unfolding whole_of
+whole_blanks [] h = refl
+whole_blanks (b ∷ bs) h = go (is_blank b) h (whole_blanks bs)
+  where
+    go : (t : Bool) → suc (length bs) ≤ cond (not (not t)) (1 + begins bs) 0 → (length bs ≤ begins bs → whole_of bs ≡ Blank) →
+        elim t [ true ↦ whole_of bs | false ↦ digits_from 0 (b ∷ bs) ] ≡ Blank
+    go true k w = w (omega arith)
+    go false k w = absurd (omega arith)
+
+module _ (l : List ℕ) where
+  pub whole_at : (i : ℕ) → position other l ≡ Some i → digits_from 0 (take (length l - i) (drop i l)) ≡ whole_of l
+  whole_at i e = go (dec_lt (begins l) (length l))
+    where
+      go : Dec (begins l < length l) → digits_from 0 (take (length l - i) (drop i l)) ≡ whole_of l
+      go (yes h) =
+          let p : position other l ≡ Some (begins l) = rw (lt-ltb (begins l) (length l) h) refl in
+          let f : i ≡ begins l = cc in
+          rw (part_end i l) (rw f (sym (whole_behind l h)))
+      go (no h) = absurd (let p : position other l ≡ None = rw (le-ltb (begins l) (length l) (omega arith)) refl in cc)
+
+  pub whole_none : position other l ≡ None → Blank ≡ whole_of l
+  whole_none e = go (dec_lt (begins l) (length l))
+    where
+      go : Dec (begins l < length l) → Blank ≡ whole_of l
+      go (yes h) = absurd (let p : position other l ≡ Some (begins l) = rw (lt-ltb (begins l) (length l) h) refl in cc)
+      go (no h) = sym (whole_blanks l (omega arith))
 
 -- digits worth v, with room for one digit more and n behind it
 module _ (v n m : ℕ) (room : (v + 1) * 10 ^ suc n ≤ m) where

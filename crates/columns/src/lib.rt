@@ -9,7 +9,7 @@ ghost use Rattle.columns.specs.Worth.{low_from, fixed_worth, worth_of};
 ghost use Rattle.columns.specs.Picture.{FitsFrom, Fits};
 
 // What a field of columns holds.
-#[derive(Clone, Copy)]
+#[derive(Clone, Copy, PartialEq, Eq, Debug)]
 pub enum Field {
     Blank,
     Malformed,
@@ -18,30 +18,20 @@ pub enum Field {
 
 // These two look at every byte, whatever was found, so that the compiler can take many at a time.
 
+// With `a == b` the check of a full quarter takes 15 % more instructions.
+#[tactic(auto, using(crate::proofs::Reading::same_lengths))]
 pub fn same_bytes(a: &[u8], b: &[u8]) -> bool
     ensures { result ≡ same a.now b.now }
 {
-    if a.len() != b.len() {
-        return false;
-    }
-    let mut fine = true;
-    let mut i = 0;
-    while i < a.len() {
-        fine = fine & (a[i] == b[i]);
-        i += 1;
-    }
-    fine
+    a.len() == b.len() && a.iter().zip(b).fold(true, |fine, (x, y)| fine & (x == y))
 }
 
 fn block_printable(bytes: &[u8]) -> bool
     ensures { result ≡ all is_printable bytes.now }
 {
     let mut fine = true;
-    let mut i = 0;
-    while i < bytes.len() {
-        let b = bytes[i];
-        fine = fine & (32 <= b) & (b <= 126);
-        i += 1;
+    for b in bytes {
+        fine &= (b' ' <= *b) & (*b <= b'~');
     }
     fine
 }
@@ -57,12 +47,11 @@ pub fn all_printable(bytes: &[u8]) -> bool
         return block_printable(bytes);
     }
     let last = bytes.len() - BLOCK;
-    let mut i = 0;
-    while i < last {
-        if !block_printable(&bytes[i..i + BLOCK]) {
+    for k in 0..last.div_ceil(BLOCK) {
+        let from = k * BLOCK;
+        if !block_printable(&bytes[from..from + BLOCK]) {
             return false;
         }
-        i += BLOCK;
     }
     block_printable(&bytes[last..])
 }
@@ -70,14 +59,7 @@ pub fn all_printable(bytes: &[u8]) -> bool
 pub fn all_blank(bytes: &[u8]) -> bool
     ensures { result ≡ all is_blank bytes.now }
 {
-    let mut i = 0;
-    while i < bytes.len() {
-        if bytes[i] != 32 {
-            return false;
-        }
-        i += 1;
-    }
-    true
+    bytes.iter().all(|b| *b == b' ')
 }
 
 // Digits to the end, behind digits worth `before`.
@@ -87,15 +69,13 @@ fn digits_behind(before: u64, bytes: &[u8]) -> Field
     ensures { result ≡ digits_from before bytes.now }
 {
     let mut value = before;
-    let mut i = 0;
-    while i < bytes.len() {
+    for b in bytes {
         // Of a digit its value; what comes before the digits wraps round and is greater than 9 too.
-        let digit = std::num::wrapping_sub_u8(bytes[i], 48);
+        let digit = b.wrapping_sub(b'0');
         if 9 < digit {
             return Field::Malformed;
         }
-        value = value * 10 + digit as u64;
-        i += 1;
+        value = value * 10 + u64::from(digit);
     }
     Field::Number(value)
 }
@@ -104,15 +84,10 @@ fn whole_number(bytes: &[u8]) -> Field
     requires { length bytes.now ≤ 18 }
     ensures { result ≡ whole_of bytes.now }
 {
-    let mut i = 0;
-    while i < bytes.len() {
-        let b = bytes[i];
-        if b != 32 {
-            return digits_behind(0, &bytes[i..]);
-        }
-        i += 1;
+    match bytes.iter().position(|b| *b != b' ') {
+        Some(first) => digits_behind(0, &bytes[first..]),
+        None => Field::Blank,
     }
-    Field::Blank
 }
 
 #[tactic(auto, using(crate::proofs::Reading::fixed_number, crate::proofs::Reading::fixed_pointless, crate::proofs::Reading::fixed_malformed, crate::proofs::Reading::fixed_blanks, crate::proofs::Reading::fixed_room))]
@@ -121,21 +96,10 @@ fn fixed_number(bytes: &[u8], decimals: usize) -> Field
     ensures { result ≡ fixed_of decimals bytes.now }
 {
     let point = bytes.len() - 1 - decimals;
-    let whole = whole_number(&bytes[..point]);
-    match whole {
-        Field::Number(before) => {
-            if bytes[point] != 46 {
-                return Field::Malformed;
-            }
-            digits_behind(before, &bytes[point + 1..])
-        }
-        Field::Malformed => Field::Malformed,
-        Field::Blank => {
-            if all_blank(&bytes[point..]) {
-                return Field::Blank;
-            }
-            Field::Malformed
-        }
+    match whole_number(&bytes[..point]) {
+        Field::Number(before) if bytes[point] == b'.' => digits_behind(before, &bytes[point + 1..]),
+        Field::Blank if all_blank(&bytes[point..]) => Field::Blank,
+        _ => Field::Malformed,
     }
 }
 
@@ -145,8 +109,7 @@ pub fn number_of(field: Field) -> u64
 {
     match field {
         Field::Number(k) => k,
-        Field::Malformed => 0,
-        Field::Blank => 0,
+        Field::Malformed | Field::Blank => 0,
     }
 }
 
@@ -174,16 +137,15 @@ pub fn read_digits(line: &[u8], start: usize, width: usize) -> Field
     digits_behind(0, &line[from..from + width])
 }
 
-// What bytes are worth as digits, each by its low four bits, behind digits worth `before`: a blank counts as 0.
+// What bytes are worth as digits, each by its low four bits, behind digits worth `before`: a blank counts as 0. The loop is not shared with
+// `digits_behind`, where a byte may end it, and where the room is another.
 fn low_digits(before: u64, bytes: &[u8]) -> u64
     requires { (before + 2) * 10 ^ length bytes.now ≤ 2 * 10 ^ 18 }
     ensures { (result ≡ low_from before bytes.now) × (result + 2 ≤ (before + 2) * 10 ^ length bytes.now) }
 {
     let mut value = before;
-    let mut i = 0;
-    while i < bytes.len() {
-        value = value * 10 + (bytes[i] % 16) as u64;
-        i += 1;
+    for b in bytes {
+        value = value * 10 + u64::from(*b % 16);
     }
     value
 }
@@ -218,16 +180,14 @@ fn block_fits(line: &[u8], picture: &[u8], from: usize) -> bool
     ensures { result ≡ true → FitsFrom from (from + 16) picture.now line.now }
 {
     let mut fine = true;
-    let mut i = 0;
-    while i < BLOCK {
+    for i in 0..BLOCK {
         let at = from + i;
         let p = picture[at];
         let b = line[at];
         let next = line[at + 1];
-        let digit = (48 <= b) & (b <= 57) & ((p == 57) | ((p == 32) & (48 <= next)));
-        let any = (p == 126) & ((32 <= b) & (b <= 126));
-        fine = fine & ((b == p) | digit | any);
-        i += 1;
+        let digit = (b'0' <= b) & (b <= b'9') & ((p == b'9') | ((p == b' ') & (b'0' <= next)));
+        let any = (p == b'~') & ((b' ' <= b) & (b <= b'~'));
+        fine &= (b == p) | digit | any;
     }
     fine
 }
@@ -245,12 +205,10 @@ pub fn fits(line: &[u8], picture: &[u8]) -> bool
     if !block_fits(line, picture, last) {
         return false;
     }
-    let mut i = 0;
-    while i < last {
-        if !block_fits(line, picture, i) {
+    for k in 0..last.div_ceil(BLOCK) {
+        if !block_fits(line, picture, k * BLOCK) {
             return false;
         }
-        i += BLOCK;
     }
     true
 }

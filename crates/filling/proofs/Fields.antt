@@ -5,8 +5,8 @@ use mathlib.Core.List.{List, [], ◌∷◌, ◌++◌, append-nil, append_assoc}
 use native.Mathlib.Omega.{arith}
 use native.Mathlib.Nat.{add-sub_cancel_left, pow-succ', div-div-eq-div-mul, le_of_suc-le-suc, not-suc-le-zero}
 use native.Mathlib.Numerals.{add-one}
-use lib.ListN.{length, take, drop, set, replicate, replicate-append-replicate, length-append, length-take, length-drop, drop_of_length-le}
-use lib.Seq.{take-suc-set, append_snoc, drop-length, paste, take-length, drop_at, drop-drop, length-take-le}
+use lib.ListN.{length, take, drop, set, length-append, length-take, length-drop, drop_of_length-le}
+use lib.Seq.{append_snoc, drop-length, paste, take-length, drop_at, drop-drop, length-take-le}
 use borrow.Rule.Slice.PartMut.{put_mid}
 use Rattle.columns.specs.Columns.{put}
 use Rattle.columns.specs.Number.{point_in}
@@ -88,11 +88,11 @@ module _ (l : List ℕ) (d v : ℕ) (room : d + 2 ≤ length l) where
       ∙ ap (λ (k : ℕ). whole_written k (v / 10 ^ d) ++ (46 ∷ digits_of d v)) w
 
 -- the byte in front of what was written
-pub blank_byte : (v : ℕ) → v ≡ 0 → digit_or_blank v ≡ 32
+pub blank_byte : (v : ℕ) → v ≡ 0 → 32 ≡ digit_or_blank v
 unfolding digit_or_blank
 blank_byte v e = rw e
 
-pub digit_byte : (v : ℕ) → 0 < v → digit_or_blank v ≡ last_digit v
+pub digit_byte : (v : ℕ) → 0 < v → last_digit v ≡ digit_or_blank v
 unfolding digit_or_blank
 digit_byte zero h = absurd (omega arith)
 digit_byte (suc v) h = refl
@@ -111,8 +111,3 @@ put_part start width l bs e = rw (add-sub_cancel_left (start - 1) width, ← e, 
 pub part_length : (start width : ℕ) (l : List ℕ) → start - 1 + width ≤ length l → length (take (start - 1 + width - (start - 1)) (drop (start - 1) l)) ≡ width
 part_length start width l h =
     rw (add-sub_cancel_left (start - 1) width) (length-take-le width (drop (start - 1) l) (rw length-drop (omega arith)))
-
--- filled up to place i, and one more
-pub filled_more : (l : List ℕ) (i b : ℕ) → i < length l → take i l ≡ replicate i b → take (i + 1) (set l i b) ≡ replicate (i + 1) b
-filled_more l i b h e =
-    ap (λ (n : ℕ). take n (set l i b)) (add-one i) ∙ take-suc-set l i b h ∙ ap (λ (bs : List ℕ). bs ++ (b ∷ [])) e ∙ replicate-append-replicate i 1 b

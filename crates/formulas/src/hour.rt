@@ -1,4 +1,6 @@
 // One operating hour as it is recorded. Each number is a count of units.
+ghost use Rattle.std.specs.Prelude.{◌≡◌};
+ghost use Rattle.formulas.specs.Hour.{figure_of};
 
 // Tenths of ppm (SO2, NOx) and of percent (CO2), thousands of scfh (flow), tenths of scf/mmBtu (fc, the F-factor Fc).
 #[derive(Clone, Copy)]
@@ -35,4 +37,17 @@ pub enum Quantity {
     So2,
     Nox,
     Co2,
+}
+
+impl Figures {
+    pub fn of(self, q: Quantity) -> u64
+        ensures { result ≡ figure_of q self }
+    {
+        match q {
+            Quantity::Heat => self.heat,
+            Quantity::So2 => self.so2,
+            Quantity::Nox => self.nox,
+            Quantity::Co2 => self.co2,
+        }
+    }
 }

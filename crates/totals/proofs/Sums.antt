@@ -1,5 +1,7 @@
 -- The running totals as the code grows and rounds them.
-use mathlib.Core.Path.{◌≡◌, refl, ap, sym, ◌∙◌}
+use mathlib.Core.Path.{◌≡◌, refl, ap, ap₂, sym, ◌∙◌}
+use native.Mathlib.Decide.{dec_lt}
+use Rattle.std.proofs.Common.{◌≢◌, get_or-set_other, get_or-set_same, set, length-set}
 use mathlib.Core.List.{List, [], ◌∷◌, map}
 use Prim.Native.Nat.{ℕ, zero, suc, ◌+◌, ◌*◌, ◌≤◌, ◌<◌}
 use native.Mathlib.Nat.{mul-le-mul_right}
@@ -19,46 +21,58 @@ use Rattle.formulas.specs.declared.hour.Figures.{Figures}
 use Rattle.totals.specs.declared.Totals.{Totals}
 use Rattle.totals.specs.declared.Quarter.{Quarter}
 
--- n sums from place i on, each grown by its share
-abbrev pub sums_at : (n i : ℕ) → List ℕ → List ℕ → List ℕ
-sums_at zero i xs ys = []
-sums_at (suc n) i xs ys = (get_or xs i 0 + get_or ys i 0) ∷ sums_at n (suc i) xs ys
+-- the first i sums are grown by their shares
+pub record Grown (xs ys zs : List ℕ) (i : ℕ) : Type 0 where
+  pub long : length zs ≡ length xs
+  pub done : (k : ℕ) → k < i → get_or zs k 0 ≡ get_or xs k 0 + get_or ys k 0
+  pub left : (k : ℕ) → i ≤ k → get_or zs k 0 ≡ get_or xs k 0
 
--- all of them
-abbrev pub grown_sums : List ℕ → List ℕ → List ℕ
-grown_sums xs ys = sums_at (length shares) 0 xs ys
+pub grown_first : (xs ys : List ℕ) → Grown xs ys xs 0
+grown_first xs ys = record { long = refl; done = λ k h. absurd (omega arith); left = λ k h. refl }
 
-sums_behind : (n i : ℕ) (x y : ℕ) (xs ys : List ℕ) → sums_at n (suc i) (x ∷ xs) (y ∷ ys) ≡ sums_at n i xs ys
-sums_behind zero i x y xs ys = refl
-sums_behind (suc n) i x y xs ys = ap (λ (l : List ℕ). (get_or xs i 0 + get_or ys i 0) ∷ l) (sums_behind n (suc i) x y xs ys)
-
-sums_added : (xs ys : List ℕ) → length xs ≡ length ys → sums_at (length xs) 0 xs ys ≡ added xs ys
-unfolding added
-sums_added [] ys e = refl
-sums_added (x ∷ xs) [] e = absurd (omega arith)
-sums_added (x ∷ xs) (y ∷ ys) e = ap (λ (l : List ℕ). (x + y) ∷ l) (sums_behind (length xs) 0 x y xs ys ∙ sums_added xs ys (omega arith))
-
-pub grown : (t : Totals) (f : Figures) (time : ℕ) (share : List ℕ) → length t.sums ≡ length shares → share ≡ share_of f time →
-    ◌≡◌ {A = Totals} (record { sums = grown_sums t.sums share; hours = t.hours + 1 }) (with_hour t f time)
-unfolding with_hour
-grown t f time share l e =
-    ap (λ (x : List ℕ). record { sums = x; hours = t.hours + 1 })
-    (ap (grown_sums t.sums) e
-    ∙ ap (λ (n : ℕ). sums_at n 0 t.sums (share_of f time)) (sym l)
-    ∙ sums_added t.sums (share_of f time) l)
-
-sums_under : (n i j a b : ℕ) (xs ys : List ℕ) → ((i : ℕ) → get_or xs i 0 ≤ a) → ((i : ℕ) → get_or ys i 0 ≤ b) → get_or (sums_at n i xs ys) j 0 ≤ a + b
-sums_under zero i j a b xs ys p q = omega arith
-sums_under (suc n) i zero a b xs ys p q = omega (arith, p i, q i)
-sums_under (suc n) i (suc j) a b xs ys p q = sums_under n (suc i) j a b xs ys p q
-
-pub grown_room : (t : Totals) (share : List ℕ) → Room t → ShareRoom share → t.hours < most_hours →
-    Room (record { sums = grown_sums t.sums share; hours = t.hours + 1 })
-grown_room t share r s h = record {
-  count = refl;
-  hours = omega arith;
-  each = λ i. omega (arith, sums_under (length shares) 0 i (t.hours * most_share) most_share t.sums share r.each s.each);
+pub grown_next : (xs ys zs : List ℕ) (i : ℕ) → Grown xs ys zs i → i < length xs → Grown xs ys (set zs i (get_or zs i 0 + get_or ys i 0)) (i + 1)
+grown_next xs ys zs i g h = record {
+  long = length-set zs i _ ∙ g.long;
+  done = λ k l. one k l (dec_lt k i);
+  left = λ k l. let ne : k ≢ i = omega arith in rw get_or-set_other (g.left k (omega arith));
 }
+  where
+    one : (k : ℕ) → k < i + 1 → Dec (k < i) → get_or (set zs i (get_or zs i 0 + get_or ys i 0)) k 0 ≡ get_or xs k 0 + get_or ys k 0
+    one k l (yes m) = let ne : k ≢ i = omega arith in rw get_or-set_other (g.done k m)
+    one k l (no m) =
+        let e : k ≡ i = omega arith in
+        let lt : i < length zs = omega (arith, g.long) in
+        rw (e, get_or-set_same) (ap (λ n. n + get_or ys i 0) (g.left i (omega arith)))
+
+all_added : (xs ys zs : List ℕ) → length ys ≡ length xs → length zs ≡ length xs →
+    ((k : ℕ) → k < length xs → get_or zs k 0 ≡ get_or xs k 0 + get_or ys k 0) → zs ≡ added xs ys
+unfolding added
+all_added [] ys [] m l e = refl
+all_added [] ys (z ∷ zs) m l e = absurd (omega arith)
+all_added (x ∷ xs) [] zs m l e = absurd (omega arith)
+all_added (x ∷ xs) (y ∷ ys) [] m l e = absurd (omega arith)
+all_added (x ∷ xs) (y ∷ ys) (z ∷ zs) m l e =
+    ap₂ ◌∷◌ (e 0 (omega arith)) (all_added xs ys zs (omega arith) (omega arith) (λ k h. e (suc k) (omega arith)))
+
+pub grown : (t : Totals) (f : Figures) (time : ℕ) (share sums : List ℕ) (i : ℕ) → Grown t.sums share sums i → length t.sums ≤ i →
+    length t.sums ≡ length shares → share ≡ share_of f time → ◌≡◌ {A = Totals} (record { sums = sums; hours = t.hours + 1 }) (with_hour t f time)
+unfolding with_hour
+grown t f time share sums i g h l e =
+    let m : length share ≡ length t.sums = ap length e ∙ sym l in
+    ap (λ (x : List ℕ). record { sums = x; hours = t.hours + 1 })
+    (all_added t.sums share sums m g.long (λ k n. g.done k (omega arith)) ∙ ap (added t.sums) e)
+
+pub grown_room : (t : Totals) (share sums : List ℕ) (i : ℕ) → Grown t.sums share sums i → Room t → ShareRoom share → t.hours < most_hours →
+    Room (record { sums = sums; hours = t.hours + 1 })
+grown_room t share sums i g r s h = record {
+  count = g.long ∙ r.count;
+  hours = omega arith;
+  each = λ k. go k (dec_lt k i);
+}
+  where
+    go : (k : ℕ) → Dec (k < i) → get_or sums k 0 ≤ (t.hours + 1) * most_share
+    go k (yes m) = omega (arith, g.done k m, r.each k, s.each k)
+    go k (no m) = omega (arith, g.left k (omega arith), r.each k)
 
 -- what is true of every number of a list is true at every place
 abbrev pub AllUnder : ℕ → List ℕ → Type 0

@@ -65,7 +65,7 @@ impl Totals {
         ensures { (result ≡ no_totals) × Room result }
     {
         Totals {
-            sums: [0, 0, 0, 0, 0],
+            sums: [0; 5],
             hours: 0,
         }
     }
@@ -75,15 +75,10 @@ impl Totals {
         requires { Room self × (self.hours < most_hours) × FiguresWithin figures × (time ≤ 100) }
         ensures { (result ≡ with_hour self figures time) × Room result }
     {
-        let s = self.sums;
         let share = share_of(figures, time);
-        self.sums = [
-            s[0] + share[0],
-            s[1] + share[1],
-            s[2] + share[2],
-            s[3] + share[3],
-            s[4] + share[4],
-        ];
+        for i in 0..share.len() {
+            self.sums[i] += share[i];
+        }
         self.hours += 1;
         self
     }
@@ -93,15 +88,15 @@ impl Totals {
         requires { Room self }
         ensures { result ≡ quarter_of self }
     {
-        let sums = self.sums;
-        let hours = self.hours;
+        let Totals { sums, hours } = self;
+        let [so2, co2, heat, nox, nox_mass] = sums;
         Quarter {
             hours,
-            so2: exact::half_up(sums[0], 200000),
-            co2: exact::half_up(sums[1], 100),
-            heat: exact::half_up(sums[2], 100),
-            nox: mean(sums[3], hours),
-            nox_tons: exact::half_up(sums[4], 200000000),
+            so2: exact::half_up(so2, 200000),
+            co2: exact::half_up(co2, 100),
+            heat: exact::half_up(heat, 100),
+            nox: mean(nox, hours),
+            nox_tons: exact::half_up(nox_mass, 200000000),
         }
     }
 }
