@@ -27,10 +27,10 @@ use Rattle.sheet.specs.Sheet.{recorded_readings, sheet_hour_count, shape_of, she
 use Rattle.sheet.specs.declared.SheetHour.{SheetHour}
 use Rattle.writer.specs.Recorded.{ReportHour, recorded_hour, recorded_hours, report_hours}
 use Rattle.writer.specs.Refusals.{refusal_of}
-use Rattle.writer.specs.Written.{written_number, shortest_report, report, answered, buffered, answered_in, buffered_in}
+use Rattle.writer.specs.Written.{Written, written_number, shortest_report, report, answered, buffered, answered_in, buffered_in}
 use Rattle.writer.proofs.TableLaws.{not_refused, number_tells}
 use Rattle.writer.proofs.ReportLaws.{report_hours_count, report_shape, report_bytes}
-use Rattle.writer.specs.declared.Written.TheVariants.{Length, Refused}
+use Rattle.std.specs.Prelude.{Ok as Length, Err as Refused}
 use Rattle.agreement.specs.Reportable.{Reportable, formed}
 use Rattle.agreement.specs.ReportableLaws.{reportable_few, writable_reportable}
 use Rattle.agreement.specs.ReportLaws.{recorded_length, own, report_right}
@@ -77,7 +77,7 @@ module _ (year quarter : ℕ) (name sheet : List ℕ) (named : length name ≡ s
   written_report buffer n e = go (refusal_of year quarter name sheet (length buffer)) refl e
     where
       go : (f : ℕ) → refusal_of year quarter name sheet (length buffer) ≡ f →
-          elim f [ zero ↦ Length (report_length (shape_of sheet)) | suc c ↦ Refused (suc c) ] ≡ Length n →
+          ◌≡◌ {A = Written} (elim f [ zero ↦ Length (report_length (shape_of sheet)) | suc c ↦ Refused (suc c) ]) (Length n) →
           (take n (buffered year quarter name sheet buffer) ≡ report year quarter name hours) × Reportable year quarter name hours
       go zero z v =
           let l : report_length (shape_of sheet) ≡ n = cc in

@@ -34,7 +34,7 @@ use Rattle.records.specs.Records.{headed, valued, facility_record, totals_record
 use Rattle.writer.proofs.Examples.{stack, sheet_with}
 use Rattle.writer.specs.Refusals.{figures_hold, refusal_in}
 use Rattle.writer.specs.Written.{hour_record, written_records, lined, report, answered, buffered, buffered_in, answered_in}
-use Rattle.writer.specs.declared.Written.TheVariants.{Length}
+use Rattle.std.specs.Prelude.{Ok as Length}
 
 -- hour 1,421 for 0.25 hours: SO2 123.4, NOx 98.7, CO2 11.1, flow 12,345,000, Fc 1,040.0; hour 2,183 for 1.00: 567.8, 43.2, 9.9, 23,456,000, 2,222.2
 abbrev two_sheet : List ℕ

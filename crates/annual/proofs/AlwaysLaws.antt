@@ -9,12 +9,11 @@ use Rattle.layout.specs.LayoutLaws.{true_within}
 use Rattle.totals.proofs.FitLaws.{most_total, most_nox_tons, QuarterMost}
 use Rattle.totals.specs.declared.Quarter.{Quarter}
 use Rattle.checker.proofs.PromiseLaws.{accepted_most}
-use Rattle.annual.specs.Joined.{year_numbers, all_zeros, follows, year_limit, sums_fit, with_quarter, joined_of}
+use Rattle.annual.specs.Joined.{Joined, year_numbers, all_zeros, follows, year_limit, sums_fit, with_quarter, joined_of}
 use Rattle.annual.proofs.JoinedLaws.{joined_record}
 use Rattle.annual.specs.Year.{Part, none_of, and_then, joined_from, Consecutive}
 use Rattle.annual.specs.declared.YearToDate.{YearToDate}
-use Rattle.annual.specs.declared.Joined.{Joined}
-use Rattle.annual.specs.declared.Joined.TheVariants.{Record}
+use Rattle.std.specs.Prelude.{Ok as Record}
 
 -- a year's record after k quarters
 record After (year k : ℕ) (y : YearToDate) : Type 0 where

@@ -9,10 +9,9 @@ use Rattle.exact.specs.Logic.{both}
 use Rattle.layout.specs.Values.{Within, quarter_digit}
 use Rattle.layout.specs.LayoutLaws.{within_true}
 use Rattle.totals.specs.declared.Quarter.{Quarter}
-use Rattle.annual.specs.Joined.{year_numbers, follows, sums_fit, with_quarter, joined_of}
+use Rattle.annual.specs.Joined.{Joined, year_numbers, follows, sums_fit, with_quarter, joined_of}
 use Rattle.annual.specs.declared.YearToDate.{YearToDate}
-use Rattle.annual.specs.declared.Joined.{Joined}
-use Rattle.annual.specs.declared.Joined.TheVariants.{Record, Refused}
+use Rattle.std.specs.Prelude.{Ok as Record, Err as Refused}
 
 pub never_record : {A : Type 0} (number : ℕ) (y : YearToDate) → Refused number ≡ Record y → A
 never_record number y e = absurd (let z : ◌≡◌ {A = ℕ} 0 1 = cc in omega arith)
@@ -21,7 +20,7 @@ record_in : YearToDate → Joined → YearToDate
 record_in y (Record x) = x
 record_in y (Refused number) = y
 
-pub same_record : (x y : YearToDate) → Record x ≡ Record y → x ≡ y
+pub same_record : (x y : YearToDate) → ◌≡◌ {A = Joined} (Record x) (Record y) → x ≡ y
 unfolding record_in
 same_record x y e = ap (record_in y) e
 
@@ -69,7 +68,9 @@ module _ (previous : YearToDate) (year quarter : ℕ) (answer : Quarter) where
   record_joined y e = go (follows previous year quarter answer) (sums_fit previous answer) refl e
     where
       go : (t s : Bool) → follows previous year quarter answer ≡ t →
-          elim t [ false ↦ Refused 41 | true ↦ elim s [ false ↦ Refused 42 | true ↦ Record (with_quarter previous year quarter answer) ] ] ≡ Record y →
+          ◌≡◌ {A = Joined}
+          (elim t [ false ↦ Refused 41 | true ↦ elim s [ false ↦ Refused 42 | true ↦ Record (with_quarter previous year quarter answer) ] ])
+          (Record y) →
           Follows previous year quarter answer × (with_quarter previous year quarter answer ≡ y)
       go false s f w = never_record 41 y w
       go true false f w = never_record 42 y w

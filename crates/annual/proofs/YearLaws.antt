@@ -16,14 +16,13 @@ use Rattle.totals.specs.declared.Quarter.{Quarter}
 use Rattle.reading.specs.Recorded.{hours_of}
 use Rattle.judging.specs.Behind.{LieBehind, exact_amount, reported, allowed}
 use Rattle.checker.proofs.PromiseLaws.{promise}
-use Rattle.annual.specs.Joined.{year_numbers, joined_of}
+use Rattle.annual.specs.Joined.{Joined, year_numbers, joined_of}
 use Rattle.annual.proofs.NearLaws.{one_more_lem}
 use Rattle.annual.proofs.JoinedLaws.{says_record, same_record, never_record, record_joined}
 use Rattle.annual.specs.Year.{Part, none_of, and_then, joined_from, Consecutive, Summed, so2, co2, heat, reported_year, allowed_year}
 use Rattle.annual.specs.Year.{BehindAll, exact_year, YearPromise}
 use Rattle.annual.specs.declared.YearToDate.{YearToDate}
-use Rattle.annual.specs.declared.Joined.{Joined}
-use Rattle.annual.specs.declared.Joined.TheVariants.{Record, Refused}
+use Rattle.std.specs.Prelude.{Ok as Record, Err as Refused}
 
 -- behind every part stand lists, and behind all of them a list of lists
 parts_behind : (q : Quantity) (ps : List Part) → (ess : List (List (Entry q))) × BehindAll q ps ess

@@ -1,11 +1,14 @@
 -- What joining a quarter's answer to a year's record gives. It computes.
-use Rattle.std.specs.Prelude.{ℕ, ◌+◌, ◌*◌, List, [], ◌∷◌, Bool, true, false, ◌&&◌, ◌||◌, not, eqb, leb}
+use Rattle.std.specs.Prelude.{ℕ, ◌+◌, ◌*◌, List, [], ◌∷◌, Bool, true, false, ◌&&◌, ◌||◌, not, eqb, leb, Result}
+use Rattle.std.specs.Prelude.{Ok as Record, Err as Refused}
 use Rattle.calendar.specs.Calendar.{most_hours}
 use Rattle.layout.specs.Values.{within, quarter_digit}
 use Rattle.totals.specs.declared.Quarter.{Quarter}
 use Rattle.annual.specs.declared.YearToDate.{YearToDate}
-use Rattle.annual.specs.declared.Joined.{Joined}
-use Rattle.annual.specs.declared.Joined.TheVariants.{Record, Refused}
+
+-- a joining as the paper has it: the record, or the number of the refusal
+abbrev pub Joined : Type 0
+Joined = Result YearToDate ℕ
 
 -- what a joining says: the seven numbers of the record, or that of the refusal
 abbrev pub year_numbers : Joined → List ℕ

@@ -17,10 +17,9 @@ use Rattle.reading.specs.Recorded.{hours_of}
 use Rattle.judging.specs.Judged.{acceptance}
 use Rattle.judging.specs.Behind.{LieBehind, exact_amount}
 use Rattle.checker.specs.Checked.{checked, answer_numbers}
-use Rattle.annual.specs.Joined.{joined_of}
+use Rattle.annual.specs.Joined.{Joined, joined_of}
 use Rattle.annual.specs.declared.YearToDate.{YearToDate}
-use Rattle.annual.specs.declared.Joined.{Joined}
-use Rattle.annual.specs.declared.Joined.TheVariants.{Record, Refused}
+use Rattle.std.specs.Prelude.{Ok as Record, Err as Refused}
 
 -- an accepted file with its answer, and what quarter it is said to be
 pub record Part : Type 0 where

@@ -2,12 +2,12 @@
 use Prim.Native.Nat.{ℕ, zero, suc, ◌+◌, ◌*◌, ◌/◌, ◌%◌, ◌≤◌, ◌<◌}
 use Rattle.std.specs.Prelude.{◌≡◌, Bool, false, not, ◌&&◌, ◌||◌, eqb, take, drop, set, get_or}
 use Rattle.std.proofs.Math.Path.{refl}
-use Rattle.std.proofs.Common.{ap, ◌∙◌, not-suc-le-zero, le_of_suc-le-suc, add-one, drop_of_length-le, take-suc-set, drop-set-lt, eqb-true, eq-eqb, ne_eqb}
+use Rattle.std.proofs.Common.{sym, ap, ◌∙◌, not-suc-le-zero, le_of_suc-le-suc, add-one, drop_of_length-le, take-suc-set, drop-set-lt, eqb-true, eq-eqb, ne_eqb}
 use Rattle.std.proofs.Math.Bool.{true}
-use mathlib.Core.List.{List, [], ◌∷◌, ◌++◌}
+use mathlib.Core.List.{List, [], ◌∷◌, ◌++◌, append-nil}
 use native.Mathlib.Omega.{arith}
 use Rattle.std.proofs.Math.ListN.{length}
-use Rattle.std.proofs.Math.Seq.{drop-cons, append_snoc}
+use Rattle.std.proofs.Math.Seq.{drop-cons, append_snoc, take_all}
 use Rattle.exact.specs.Logic.{both}
 use Rattle.exact.specs.Faults.{◌or_else◌, unless}
 use Rattle.exact.specs.Clauses.{clause}
@@ -76,6 +76,10 @@ recode_more sheet i h =
     let v = recoded (i % hour_words) (get_or sheet i 0) in
     rw (add-one i, take-suc-set sheet i v h, drop-set-lt (suc i) sheet i v (omega arith), drop-cons sheet i 0 h)
     (append_snoc (take i sheet) v (recoded_from (suc i) (drop (suc i) sheet)))
+
+pub recode_end : (sheet : List ℕ) (i : ℕ) → length sheet ≤ i → sheet ≡ take i sheet ++ recoded_from i (drop i sheet)
+unfolding recoded_from
+recode_end sheet i h = rw (take_all i sheet h, drop_of_length-le sheet h) (sym (append-nil sheet))
 
 pub recoded_length : (i : ℕ) (ws : List ℕ) → length (recoded_from i ws) ≡ length ws
 unfolding recoded_from

@@ -18,9 +18,8 @@ use Rattle.sheet.proofs.SheetClauseLaws.{say_kinds}
 use Rattle.sheet.specs.declared.SheetHour.{SheetHour}
 use Rattle.writer.specs.Recorded.{report_hours}
 use Rattle.writer.specs.Refusals.{figures_fit, refusal_in}
-use Rattle.writer.specs.Written.{answered, answered_in, buffered, buffered_in, report}
-use Rattle.writer.specs.declared.Written.{Written}
-use Rattle.writer.specs.declared.Written.TheVariants.{Length, Refused}
+use Rattle.writer.specs.Written.{Written, answered, answered_in, buffered, buffered_in, report}
+use Rattle.std.specs.Prelude.{Ok as Length, Err as Refused}
 use Rattle.conversion.specs.Conversion.{conversion_refusal, recoded_from}
 use Rattle.conversion.specs.ConversionPromise.{kept_kind, kept_value, OldFlows, ConversionPromise}
 use Rattle.conversion.proofs.ConversionLaws.{recoded_length, other_kept, flow_word, refusal_told}

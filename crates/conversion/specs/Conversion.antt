@@ -1,11 +1,10 @@
 -- A kept sheet, of the first form, made into one of the present form: what refuses it, and each of its words afterwards.
-use Rattle.std.specs.Prelude.{ℕ, zero, suc, ◌%◌, Bool, true, cond, not, ◌&&◌, ◌||◌, List, [], ◌∷◌, eqb, leb, length}
+use Rattle.std.specs.Prelude.{ℕ, zero, suc, ◌%◌, Bool, true, cond, not, ◌&&◌, ◌||◌, List, [], ◌∷◌, eqb, leb, length, Result}
+use Rattle.std.specs.Prelude.{Ok as Done, Err as Refused}
 use Rattle.exact.specs.Faults.{◌or_else◌, unless}
 use Rattle.calendar.specs.Calendar.{most_hours}
 use Rattle.layout.specs.Values.{thousands_of, whole_steps, flow_scfh}
 use Rattle.sheet.specs.Sheet.{hour_words, flow_kind, word_of, first_form, sheet_hour_count}
-use Rattle.conversion.specs.declared.Converted.{Converted}
-use Rattle.conversion.specs.declared.Converted.TheVariants.{Done, Refused}
 
 -- 31: the kind of a word is its place in the hour
 abbrev pub kind_right : (place word : ℕ) → Bool
@@ -41,10 +40,13 @@ recoded_from i (w ∷ ws) = recoded (i % hour_words) w ∷ recoded_from (suc i) 
 unfoldable pub converted : List ℕ → List ℕ
 converted sheet = elim (conversion_refusal sheet) [ zero ↦ recoded_from 0 sheet | suc c ↦ sheet ]
 
--- the answer, and its number: 0 where the sheet is converted
+-- the answer as the paper has it, and its number: 0 where the sheet is converted
+abbrev pub Converted : Type 0
+Converted = Result (Unit {0}) ℕ
+
 unfoldable pub conversion_answer : List ℕ → Converted
-conversion_answer sheet = elim (conversion_refusal sheet) [ zero ↦ Done | suc c ↦ Refused (suc c) ]
+conversion_answer sheet = elim (conversion_refusal sheet) [ zero ↦ Done tt | suc c ↦ Refused (suc c) ]
 
 abbrev pub converted_number : Converted → ℕ
-converted_number Done = 0
+converted_number (Done _) = 0
 converted_number (Refused number) = number

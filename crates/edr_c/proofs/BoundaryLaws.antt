@@ -4,7 +4,7 @@ use Rattle.totals.specs.declared.Quarter.{Quarter}
 use Rattle.judging.specs.Judged.{acceptance}
 use Rattle.annual.specs.Joined.{year_numbers}
 use Rattle.annual.specs.declared.YearToDate.{YearToDate}
-use Rattle.annual.specs.declared.Joined.TheVariants.{Record}
+use Rattle.std.specs.Prelude.{Ok as Record}
 use Rattle.edr_c.specs.Boundary.{filled, quarter_in, year_in}
 
 pub answer_read : (r : Quarter) (buffer : List ℕ) → quarter_in (filled (acceptance r) buffer) ≡ r

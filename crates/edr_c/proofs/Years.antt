@@ -1,47 +1,49 @@
--- A year's record stored, or the refusal, and what long enough slices are.
-use Prim.Native.Nat.{ℕ, ◌≤◌}
+-- A year's record, or the refusal, in long enough slices.
+use Prim.Native.Nat.{ℕ, ◌≤◌, ◌<◌}
 use mathlib.Core.Path.{◌≡◌}
-use mathlib.Core.List.{List}
-use mathlib.Core.Bool.{true, false}
+use mathlib.Core.List.{List, ◌++◌}
+use mathlib.Core.Bool.{true, false, ◌||◌}
+use Rattle.std.proofs.Math.Bool.{or-true}
+use lib.Dec.{ltb}
 use native.Mathlib.Omega.{arith}
-use lib.ListN.{length, set}
-use borrow.Author.Tests.{ltb-false}
-use Rattle.exact.specs.Logic.{neither}
+use lib.ListN.{length, drop, set}
+use borrow.Author.Tests.{lt-ltb, le-ltb}
 use Rattle.annual.specs.Joined.{joined_of, year_numbers}
 use Rattle.annual.specs.declared.YearToDate.{YearToDate}
-use Rattle.annual.specs.declared.Joined.TheVariants.{Record, Refused}
+use Rattle.std.specs.Prelude.{Ok as Record, Err as Refused}
 use Rattle.edr_c.specs.Boundary.{answer_length, year_length, quarter_in, year_in, too_short, year_code, year_filled}
-use Rattle.edr_c.proofs.Filling.{store, stored}
-
-pub record LongEnough (previous answer buffer : List ℕ) : Type 0 where
-  pub before : year_length ≤ length previous
-  pub quarter : answer_length ≤ length answer
-  pub room : year_length ≤ length buffer
-
-pub long_enough : (previous answer buffer : List ℕ) → too_short previous answer buffer ≡ false → LongEnough previous answer buffer
-long_enough previous answer buffer e =
-    let b = neither _ _ e in
-    let a = neither _ _ b.0 in
-    record { before = ltb-false _ _ a.0; quarter = ltb-false _ _ a.1; room = ltb-false _ _ b.1 }
+use Rattle.edr_c.proofs.Filling.{set_front}
 
 module _ (previous answer : List ℕ) (year quarter : ℕ) (buffer : List ℕ) where
-  pub short : too_short previous answer buffer ≡ true →
+  short : too_short previous answer buffer ≡ true →
       (2 ≡ year_code previous answer year quarter buffer) × (buffer ≡ year_filled previous answer year quarter buffer)
   unfolding year_code year_filled
   short e = (rw (e, year_code), rw (e, year_filled))
 
-  module _ (long : too_short previous answer buffer ≡ false) where
+  pub short_previous : length previous < year_length →
+      (2 ≡ year_code previous answer year quarter buffer) × (buffer ≡ year_filled previous answer year quarter buffer)
+  short_previous h = short (rw (lt-ltb (length previous) year_length h))
+
+  pub short_answer : length answer < answer_length →
+      (2 ≡ year_code previous answer year quarter buffer) × (buffer ≡ year_filled previous answer year quarter buffer)
+  short_answer h = short (rw (lt-ltb (length answer) answer_length h, or-true (ltb (length previous) year_length)))
+
+  pub short_record : length buffer < year_length →
+      (2 ≡ year_code previous answer year quarter buffer) × (buffer ≡ year_filled previous answer year quarter buffer)
+  short_record h =
+      short (rw (lt-ltb (length buffer) year_length h) (or-true (ltb (length previous) year_length || ltb (length answer) answer_length)))
+
+  module _ (p : year_length ≤ length previous) (a : answer_length ≤ length answer) (b : year_length ≤ length buffer) where
+    long : too_short previous answer buffer ≡ false
+    long = rw (le-ltb (length previous) year_length p, le-ltb (length answer) answer_length a, le-ltb (length buffer) year_length b)
+
     pub joined : (y : YearToDate) → joined_of (year_in previous) year quarter (quarter_in answer) ≡ Record y →
-        (1 ≡ year_code previous answer year quarter buffer)
-        × (set (set (set (set (set (set (set buffer 0 y.year) 1 y.quarter) 2 y.hours) 3 y.so2) 4 y.co2) 5 y.heat) 6 y.nox_tons
-        ≡ year_filled previous answer year quarter buffer)
-    unfolding year_code year_filled store
-    joined y e =
-        (rw (long, year_code, e), rw (long, year_filled, e) (stored (year_numbers (Record y)) buffer (long_enough previous answer buffer long).room))
+        (front : List ℕ) → front ≡ year_numbers (Record y) →
+        (1 ≡ year_code previous answer year quarter buffer) × (front ++ drop year_length buffer ≡ year_filled previous answer year quarter buffer)
+    unfolding year_code year_filled
+    joined y e front f = (rw (long, year_code, e), rw (long, year_filled, e, f))
 
     pub refused : (number : ℕ) → joined_of (year_in previous) year quarter (quarter_in answer) ≡ Refused number →
         (0 ≡ year_code previous answer year quarter buffer) × (set buffer 0 number ≡ year_filled previous answer year quarter buffer)
-    unfolding year_code year_filled store
-    refused number e =
-        let room = (long_enough previous answer buffer long).room in
-        (rw (long, year_code, e), rw (long, year_filled, e) (stored (year_numbers (Refused number)) buffer (omega arith)))
+    unfolding year_code year_filled
+    refused number e = (rw (long, year_code, e), rw (long, year_filled, e) (set_front number buffer (omega arith)))

@@ -5,10 +5,9 @@ use Rattle.checker.specs.Checked.{answer_numbers, checked}
 use Rattle.checker.specs.Checked.{Answer}
 use Rattle.std.specs.Prelude.{Ok as Accepted, Err as Refused}
 use Rattle.totals.specs.declared.Quarter.{Quarter}
-use Rattle.annual.specs.Joined.{joined_of, year_numbers}
+use Rattle.annual.specs.Joined.{Joined, joined_of, year_numbers}
 use Rattle.annual.specs.declared.YearToDate.{YearToDate}
-use Rattle.annual.specs.declared.Joined.{Joined}
-use Rattle.annual.specs.declared.Joined.TheVariants.{Record, Refused as NotJoined}
+use Rattle.std.specs.Prelude.{Ok as Record, Err as NotJoined}
 use Rattle.writer.specs.Written.{written_number, answered, buffered}
 
 abbrev pub answer_code : Answer → ℕ

@@ -2,12 +2,11 @@
 use Rattle.std.specs.Prelude.{ℕ, zero, suc, List, Bool, true, false, not, ◌||◌, eqb, leb, ltb, length, get_or, Float}
 use Rattle.std.specs.Float.{nan}
 use Rattle.columns.specs.Bytes.{all}
-use Rattle.recorder.specs.Recording.{recorder_numbers, recorded_of}
+use Rattle.recorder.specs.Recording.{Recorded, recorder_numbers, recorded_of}
 use Rattle.recorder.specs.declared.RecorderReading.{RecorderReading}
 use Rattle.recorder.specs.declared.RecorderReading.TheVariants.{Measured, Substituted, Absent}
 use Rattle.recorder.specs.declared.RecorderHour.{RecorderHour}
-use Rattle.recorder.specs.declared.Recorded.{Recorded}
-use Rattle.recorder.specs.declared.Recorded.TheVariants.{Words, Refused}
+use Rattle.std.specs.Prelude.{Ok as Words, Err as Refused}
 use Rattle.edr_c.specs.Boundary.{filled}
 
 -- an hour has four readings; an answer has four words and the count of substituted readings

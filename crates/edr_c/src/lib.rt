@@ -8,12 +8,11 @@ ghost use Rattle.edr_c.specs.Boundary.{quarter_in, year_in, year_code, year_fill
 ghost use Rattle.conversion.specs.Conversion.{converted, conversion_answer, converted_number};
 ghost use Rattle.edr_c.specs.RecorderCall.{reading_in, recorder_code, recorder_filled};
 
-use annual::{Joined, YearToDate};
+use annual::YearToDate;
 use checker::Answer;
-use conversion::Converted;
-use recorder::{Recorded, RecorderHour, RecorderReading};
+use recorder::{RecorderHour, RecorderReading};
+use refusals::WriteRefusal;
 use totals::Quarter;
-use writer::Written;
 
 // The numbers of an answer.
 const ANSWER_LENGTH: usize = 6;
@@ -45,17 +44,18 @@ pub extern "C" fn edr_check(file: &[u8], answer: &mut [u64]) -> u64
     }
     match checker::check(file) {
         Answer::Accepted(quarter) => {
-            answer[0] = quarter.hours;
-            answer[1] = quarter.so2;
-            answer[2] = quarter.co2;
-            answer[3] = quarter.heat;
-            answer[4] = quarter.nox;
-            answer[5] = quarter.nox_tons;
+            answer[..ANSWER_LENGTH].copy_from_slice(&[
+                quarter.hours,
+                quarter.so2,
+                quarter.co2,
+                quarter.heat,
+                quarter.nox,
+                quarter.nox_tons,
+            ]);
             1
         }
         Answer::Refused(refusal) => {
-            answer[0] = refusal.number;
-            answer[1] = refusal.line as u64;
+            answer[..2].copy_from_slice(&[refusal.number, refusal.line as u64]);
             0
         }
     }
@@ -73,13 +73,12 @@ pub extern "C" fn edr_write(
     ensures { (result ≡ write_code year quarter name.now sheet.now buffer.old)
         × (buffer.new ≡ write_filled year quarter name.now sheet.now buffer.old) }
 {
-    if name.len() != layout::STACK_WIDTH {
-        return 31;
-    }
-    let letters = [name[0], name[1], name[2], name[3], name[4], name[5]];
+    let Ok(letters) = <[u8; layout::STACK_WIDTH]>::try_from(name) else {
+        return WriteRefusal::Sheet.number();
+    };
     match writer::write(year, quarter, letters, sheet, buffer) {
-        Written::Length(length) => length as u64,
-        Written::Refused(number) => number,
+        Ok(length) => length as u64,
+        Err(refusal) => refusal.number(),
     }
 }
 
@@ -128,25 +127,24 @@ pub extern "C" fn edr_year_to_date(
     ensures { (result ≡ year_code previous.now answer.now year quarter «record».old)
         × («record».new ≡ year_filled previous.now answer.now year quarter «record».old) }
 {
-    if (previous.len() < YEAR_LENGTH)
-        | (answer.len() < ANSWER_LENGTH)
-        | (record.len() < YEAR_LENGTH)
-    {
+    if previous.len() < YEAR_LENGTH || answer.len() < ANSWER_LENGTH || record.len() < YEAR_LENGTH {
         return 2;
     }
     match annual::join(year_in(previous), year, quarter, quarter_in(answer)) {
-        Joined::Record(joined) => {
-            record[0] = joined.year;
-            record[1] = joined.quarter;
-            record[2] = joined.hours;
-            record[3] = joined.so2;
-            record[4] = joined.co2;
-            record[5] = joined.heat;
-            record[6] = joined.nox_tons;
+        Ok(joined) => {
+            record[..YEAR_LENGTH].copy_from_slice(&[
+                joined.year,
+                joined.quarter,
+                joined.hours,
+                joined.so2,
+                joined.co2,
+                joined.heat,
+                joined.nox_tons,
+            ]);
             1
         }
-        Joined::Refused(number) => {
-            record[0] = number;
+        Err(refusal) => {
+            record[0] = refusal.number();
             0
         }
     }
@@ -157,13 +155,11 @@ fn reading_in(states: &[u8], readings: &[f64], i: usize) -> RecorderReading
     requires { (i < length states.now) × (i < length readings.now) }
     ensures { result ≡ reading_in (get_or states.now i 0) (get_or readings.now i nan) }
 {
-    if states[i] == MEASURED {
-        return RecorderReading::Measured(readings[i]);
+    match states[i] {
+        MEASURED => RecorderReading::Measured(readings[i]),
+        SUBSTITUTED => RecorderReading::Substituted(readings[i]),
+        _ => RecorderReading::Absent,
     }
-    if states[i] == SUBSTITUTED {
-        return RecorderReading::Substituted(readings[i]);
-    }
-    RecorderReading::Absent
 }
 
 // 1 and the words of SO2, NOx, CO2 and flow and the number of substituted readings in answer[0..5]; 0 and the number in answer[0] where
@@ -174,7 +170,7 @@ pub extern "C" fn edr_recorder_words(states: &[u8], readings: &[f64], answer: &m
     ensures { (result ≡ recorder_code states.now readings.now answer.old)
         × (answer.new ≡ recorder_filled states.now readings.now answer.old) }
 {
-    if (states.len() != READINGS) | (readings.len() != READINGS) | (answer.len() < WORDS_LENGTH) {
+    if states.len() != READINGS || readings.len() != READINGS || answer.len() < WORDS_LENGTH {
         return 2;
     }
     let known = (states[0] <= ABSENT)
@@ -184,26 +180,25 @@ pub extern "C" fn edr_recorder_words(states: &[u8], readings: &[f64], answer: &m
     if !known {
         return 2;
     }
-    let so2 = reading_in(states, readings, 0);
-    let nox = reading_in(states, readings, 1);
-    let co2 = reading_in(states, readings, 2);
-    let flow = reading_in(states, readings, 3);
-    match recorder::hour_words(RecorderHour {
-        so2,
-        nox,
-        co2,
-        flow,
-    }) {
-        Recorded::Words(words) => {
-            answer[0] = words.so2;
-            answer[1] = words.nox;
-            answer[2] = words.co2;
-            answer[3] = words.flow;
-            answer[4] = words.substituted;
+    let hour = RecorderHour {
+        so2: reading_in(states, readings, 0),
+        nox: reading_in(states, readings, 1),
+        co2: reading_in(states, readings, 2),
+        flow: reading_in(states, readings, 3),
+    };
+    match recorder::hour_words(hour) {
+        Ok(words) => {
+            answer[..WORDS_LENGTH].copy_from_slice(&[
+                words.so2,
+                words.nox,
+                words.co2,
+                words.flow,
+                words.substituted,
+            ]);
             1
         }
-        Recorded::Refused(number) => {
-            answer[0] = number as u32;
+        Err(refusal) => {
+            answer[0] = refusal.number() as u32;
             0
         }
     }
@@ -215,7 +210,7 @@ pub extern "C" fn edr_convert(sheet: &mut [u32]) -> u64
     ensures { (result ≡ converted_number (conversion_answer sheet.old)) × (sheet.new ≡ converted sheet.old) }
 {
     match conversion::convert(sheet) {
-        Converted::Done => 0,
-        Converted::Refused(number) => number,
+        Ok(()) => 0,
+        Err(refusal) => refusal.number(),
     }
 }

@@ -5,14 +5,13 @@ use mathlib.Core.List.{List, [], ◌∷◌, ◌++◌}
 use native.Mathlib.Omega.{arith}
 use native.Mathlib.Numerals.{add-one}
 use lib.ListN.{length, take, drop, set, get_or, replicate, length-replicate, drop_of_length-le}
-use lib.Seq.{drop-cons, take-suc-set}
+use lib.Seq.{drop-cons, take-suc-set, take_all}
 use Rattle.layout.specs.Layout.{report_length}
 use Rattle.writer.specs.Refusals.{refusal_of}
 use Rattle.writer.proofs.TableLaws.{not_refused}
 use Rattle.sheet.specs.Sheet.{shape_of}
-use Rattle.writer.specs.Written.{answered, answered_in}
-use Rattle.writer.specs.declared.Written.{Written}
-use Rattle.writer.specs.declared.Written.TheVariants.{Length, Refused}
+use Rattle.writer.specs.Written.{Written, answered, answered_in}
+use Rattle.std.specs.Prelude.{Ok as Length, Err as Refused}
 use Rattle.outside.specs.Numbers.{number_at, words_of, adler_of}
 use Rattle.outside.specs.Cases.{last_of, edited_by}
 
@@ -26,6 +25,13 @@ pub words_more : (bytes l : List ℕ) (i : ℕ) → i < length l → take i l �
 unfolding words_of
 words_more bytes l i h e =
     stored_more l (words_of i bytes) i (number_at bytes (4 * i)) h e ∙ ap (λ (n : ℕ). words_of n bytes) (sym (add-one i))
+
+pub words_none : (bytes : List ℕ) → words_of 0 bytes ≡ []
+unfolding words_of
+words_none bytes = refl
+
+pub words_end : (bytes l : List ℕ) (i : ℕ) → length l ≤ i → take i l ≡ words_of i bytes → l ≡ words_of i bytes
+words_end bytes l i h e = sym (take_all i l h) ∙ e
 
 pub adler_more : (bytes : List ℕ) (i a b : ℕ) → i < length bytes
     → adler_of ((a + get_or bytes i 0) % 65521) ((b + (a + get_or bytes i 0) % 65521) % 65521) (drop (i + 1) bytes) ≡ adler_of a b (drop i bytes)
@@ -52,6 +58,10 @@ last_fits (Refused number) last room long h k m = m
 
 pub zeros : (n : ℕ) → n ≡ length {A = ℕ} (replicate n 0)
 zeros n = sym (length-replicate {0} {A = ℕ} n 0)
+
+pub edited_none : (edits report : List ℕ) → edited_by 0 edits report ≡ report
+unfolding edited_by
+edited_none edits report = refl
 
 pub edited_more : (edits report : List ℕ) (n : ℕ)
     → edited_by (n + 1) edits report ≡ set (edited_by n edits report) (number_at edits (5 * n)) (get_or edits (5 * n + 4) 0)

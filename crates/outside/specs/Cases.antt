@@ -2,8 +2,8 @@
 use Rattle.std.specs.Prelude.{ℕ, zero, suc, ◌+◌, ◌*◌, ◌≤◌, ◌<◌, List, length, get_or, set}
 use Rattle.outside.specs.Numbers.{number_at}
 use Rattle.outside.specs.declared.Step.{Step}
-use Rattle.writer.specs.declared.Written.{Written}
-use Rattle.writer.specs.declared.Written.TheVariants.{Length, Refused}
+use Rattle.std.specs.Prelude.{Ok as Length, Err as Refused}
+use Rattle.writer.specs.Written.{Written}
 
 -- the length of the last report written, where it was `last` before
 abbrev pub last_of : Written → ℕ → ℕ

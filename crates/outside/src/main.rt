@@ -4,14 +4,14 @@
 mod bytes_of;
 
 ghost use Rattle.std.specs.Prelude.{◌≡◌, ℕ, ◌+◌, ◌*◌, ◌/◌, ◌<◌, ◌≤◌, length, set, IfOk};
+ghost use Rattle.refusals.specs.Refusals.{told, write_number};
 ghost use Rattle.outside.specs.Cases.{last_of, edited_by, Taken};
 
 use bytes_of::{adler, byte_at, number_at, read_words, words_adler};
-use conversion::Converted;
+use refusals::WriteRefusal;
 use std::fs::File;
 use std::io::{Read, Stdout, Write};
 use std::{fs, io};
-use writer::Written;
 
 // How many bytes a case takes, and the length of the last report written.
 #[derive(Clone, Copy)]
@@ -42,26 +42,31 @@ fn print_sum(out: Stdout, word: &[u8], number: u64, sum: u64)
 }
 
 // Returns the length of the last report written, which is `last` where this one is refused.
-fn print_written(out: Stdout, written: Written, buffer: &[u8], last: usize) -> usize
-    requires { last_of written 0 ≤ length buffer.now }
-    ensures { result ≡ last_of written last }
+fn print_written(
+    out: Stdout,
+    written: Result<usize, WriteRefusal>,
+    buffer: &[u8],
+    last: usize,
+) -> usize
+    requires { last_of (told write_number written) 0 ≤ length buffer.now }
+    ensures { result ≡ last_of (told write_number written) last }
 {
     match written {
-        Written::Length(size) => {
+        Ok(size) => {
             print_sum(out, b"written", size as u64, adler(buffer));
             print_check(out, &buffer[..size]);
             size
         }
-        Written::Refused(number) => {
-            print_sum(out, b"refused", number, adler(buffer));
+        Err(refusal) => {
+            print_sum(out, b"refused", refusal.number(), adler(buffer));
             last
         }
     }
 }
 
 // Writes the report of a case and a sheet.
-fn write_sheet(case: &[u8], sheet: &[u32], buffer: &mut [u8]) -> Written
-    ensures { last_of result 0 ≤ length buffer.old }
+fn write_sheet(case: &[u8], sheet: &[u32], buffer: &mut [u8]) -> Result<usize, WriteRefusal>
+    ensures { last_of (told write_number result) 0 ≤ length buffer.old }
 {
     // A byte that no report has.
     filling::fill_with(buffer, 0xA5);
@@ -84,12 +89,13 @@ fn write_sheet(case: &[u8], sheet: &[u32], buffer: &mut [u8]) -> Written
 
 // Converts a kept sheet, and says whether it is one to write.
 fn convert_sheet(out: Stdout, sheet: &mut [u32]) -> bool {
-    let number = match conversion::convert(sheet) {
-        Converted::Done => 0,
-        Converted::Refused(number) => number,
+    let converted = conversion::convert(sheet);
+    let number = match converted {
+        Ok(()) => 0,
+        Err(refusal) => refusal.number(),
     };
     print_sum(out, b"words", number, words_adler(sheet));
-    number == 0
+    converted.is_ok()
 }
 
 // Reads a sheet, and converts it where it is a kept one. Says whether there is one to write.
@@ -97,10 +103,7 @@ fn read_sheet(out: Stdout, case: &[u8], sheet: &mut [u32]) -> bool
     requires { 23 + 4 * length sheet.old ≤ length case.now }
 {
     read_words(&case[23..], sheet);
-    if byte_at(case, 0) != b'C' {
-        return true;
-    }
-    convert_sheet(out, sheet)
+    byte_at(case, 0) != b'C' || convert_sheet(out, sheet)
 }
 
 // Reads and writes a sheet. Returns the length of the last report written.
@@ -137,19 +140,7 @@ fn write_case(out: Stdout, case: &[u8], buffer: &mut [u8], last: usize) -> Step
     let count = number_at(case, 19);
     let end = 23 + 4 * count;
     let mut sheet = sheet_room();
-    if case.len() < end {
-        return Step {
-            taken: case.len(),
-            written: last,
-        };
-    }
-    if buffer.len() < room {
-        return Step {
-            taken: case.len(),
-            written: last,
-        };
-    }
-    if 14000 < count {
+    if case.len() < end || buffer.len() < room || 14000 < count {
         return Step {
             taken: case.len(),
             written: last,
@@ -166,21 +157,18 @@ fn write_case(out: Stdout, case: &[u8], buffer: &mut [u8], last: usize) -> Step
 fn store(report: &mut [u8], place: usize, byte: u8)
     ensures { report.new ≡ set report.old place byte }
 {
-    if report.len() <= place {
-        return;
+    if place < report.len() {
+        report[place] = byte;
     }
-    report[place] = byte;
 }
 
 // Each edit is a place in the report and the byte that is to stand there.
+#[tactic(auto, using(crate::proofs::Laws::edited_more, crate::proofs::Laws::edited_none))]
 fn edit(edits: &[u8], report: &mut [u8])
     ensures { report.new ≡ edited_by (length edits.now / 5) edits.now report.old }
 {
-    let mut i = 0;
-    while i < edits.len() / 5 {
-        let place = number_at(edits, 5 * i);
-        store(report, place, edits[5 * i + 4]);
-        i += 1;
+    for i in 0..edits.len() / 5 {
+        store(report, number_at(edits, 5 * i), edits[5 * i + 4]);
     }
 }
 
@@ -202,25 +190,20 @@ fn run_case(out: Stdout, case: &[u8], buffer: &mut [u8], last: usize) -> Step
     requires { (0 < length case.now) × (last ≤ length buffer.old) }
     ensures { Taken case.now buffer.old result }
 {
-    let kind = byte_at(case, 0);
-    if (kind == b'W') | (kind == b'C') {
-        return write_case(out, case, buffer, last);
-    }
-    if kind == b'P' {
-        return Step {
+    match byte_at(case, 0) {
+        b'W' | b'C' => write_case(out, case, buffer, last),
+        b'P' => Step {
             taken: edit_case(out, case, &mut buffer[..last]),
             written: last,
-        };
-    }
-    if kind == b'F' {
-        return Step {
+        },
+        b'F' => Step {
             taken: file_case(out, case),
             written: last,
-        };
-    }
-    Step {
-        taken: case.len(),
-        written: last,
+        },
+        _ => Step {
+            taken: case.len(),
+            written: last,
+        },
     }
 }
 
@@ -273,11 +256,8 @@ fn read_data(file: &mut File, data: &mut [u8]) -> io::Result<usize>
 fn main(rt: HostRuntime) -> io::Result<()> {
     let mut data = data_room();
     let mut buffer = report_room();
-    let mut file = match fs::open(&rt, "cases.bin") {
-        Ok(file) => file,
-        Err(_) => {
-            return rt.stderr().write_all(b"the cases cannot be read\n");
-        }
+    let Ok(mut file) = fs::open(&rt, "cases.bin") else {
+        return rt.stderr().write_all(b"the cases cannot be read\n");
     };
     let size = read_data(&mut file, &mut data)?;
     run_cases(rt.stdout(), &data[..size], &mut buffer);

@@ -8,7 +8,7 @@ use Rattle.layout.specs.Values.{in_range}
 use Rattle.layout.specs.LayoutLaws.{in_range_true}
 use Rattle.layout.specs.declared.values.Value.{Value}
 use Rattle.sheet.specs.Sheet.{value_size}
-use Rattle.recorder.specs.Recording.{usable, units_in, column_of, recording_unit, column_number}
+use Rattle.recorder.specs.Recording.{units_in, column_of, recording_unit, column_number}
 use Rattle.recorder.specs.Parts.{float_scale, PartsOf, UnitRoom, channel_row}
 use Rattle.recorder.specs.declared.Parts.{Parts}
 use Rattle.recorder.specs.declared.Channel.{Channel}
@@ -75,9 +75,9 @@ past_most Nox n h = omega arith
 past_most Co2 n h = omega arith
 past_most Flow n h = omega arith
 
-pub beyond : (c : Channel) (x : Float) (p : Parts) → PartsOf x p → usable x ≡ true → float_scale ≤ p.exponent → in_range (column_of c) (column_number c x) ≡ false
-beyond c x p k e h =
-    let l : 2 ^ 52 * den x ≤ num x = num_least (num x) (den x) float_scale p.significand p.exponent (k.long (pos_scale h)) h (k.exact e) in
+pub beyond : (c : Channel) (x : Float) (p : Parts) → PartsOf x p → float_scale ≤ p.exponent → in_range (column_of c) (column_number c x) ≡ false
+beyond c x p k h =
+    let l : 2 ^ 52 * den x ≤ num x = num_least (num x) (den x) float_scale p.significand p.exponent (k.long (pos_scale h)) h k.exact in
     not_in_range (column_of c) (column_number c x) (past_most c (units_in (recording_unit c) x) (many_units (recording_unit c) x l))
   where
     pos_scale : {n : ℕ} → float_scale ≤ n → 0 < n

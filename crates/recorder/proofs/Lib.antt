@@ -4,5 +4,6 @@ pub mod Examples
 pub mod FloatLaws
 pub mod PromiseLaws
 pub mod RecorderLaws
+pub mod UnitLaws
 pub mod UsableLaws
 pub mod ReadingLaws

@@ -1,5 +1,6 @@
 -- The promise of an hour's words, channel by channel.
 use Rattle.std.specs.Prelude.{ℕ, ◌+◌, ◌*◌, ◌≤◌, ◌≡◌, List, [], ◌∷◌, length, get_or}
+use Rattle.std.specs.Prelude.{Ok as Words, Err as Refused}
 use Rattle.std.proofs.Math.Path.{refl}
 use Rattle.std.proofs.Common.{sym, ap, ◌∙◌, arith, lit≤}
 use Rattle.exact.specs.Rounding.{Records}
@@ -13,7 +14,7 @@ use Rattle.formulas.specs.declared.hour.Quantity.TheVariants.{Heat, So2 as So2Ra
 use Rattle.sheet.specs.Sheet.{word_kind, word_value, sheet_kind, sheet_value, sheet_hour_in}
 use Rattle.sheet.proofs.SheetLaws.{word_kind_lem, word_value_lem}
 use Rattle.recorder.specs.Recording.{channels, kind_of, column_of, recording_unit, reading_of}
-use Rattle.recorder.specs.Recording.{substituted_in, recorded_of, recorder_numbers}
+use Rattle.recorder.specs.Recording.{substituted_in, Recorded, recorded_of, recorder_numbers}
 use Rattle.recorder.specs.Promise.{unrounded_reading, unrounded_of, StandIn, TakenIn, HourOf, keep_substituted, substituted_among}
 use Rattle.recorder.specs.Promise.{ReadingShows, absent, unusable, outside, HourRefuses, RecorderPromise}
 use Rattle.recorder.proofs.RecorderLaws.{Given, words_given, number_refused}
@@ -21,8 +22,6 @@ use Rattle.recorder.specs.declared.RecorderReading.{RecorderReading}
 use Rattle.recorder.specs.declared.RecorderReading.TheVariants.{Measured, Substituted, Absent}
 use Rattle.recorder.specs.declared.RecorderHour.{RecorderHour}
 use Rattle.recorder.specs.declared.HourWords.{HourWords}
-use Rattle.recorder.specs.declared.Recorded.{Recorded}
-use Rattle.recorder.specs.declared.Recorded.TheVariants.{Words, Refused}
 use Rattle.recorder.specs.declared.Channel.{Channel}
 use Rattle.recorder.specs.declared.Channel.TheVariants.{So2, Nox, Co2, Flow}
 use Rattle.recorder.proofs.ReadingLaws.{reading_shows, reading_good, all_good, channel_count, count_read, reads_exact, stands_at, good_there, units, held, stood}
@@ -119,3 +118,7 @@ hour_promise h =
       counted = λ w e. ap (λ (v : HourWords). v.substituted) (sym (words_given h w (words w e)).words) ∙ substituted_count h channels;
       refused = λ number e. refusal_right h number (says_refused (recorded_of h) number e);
     }
+
+-- an answer that the definition gives has the promise, too
+pub promised : (h : RecorderHour) {r : Recorded} → r ≡ recorded_of h → (r ≡ recorded_of h) × RecorderPromise h (recorder_numbers r)
+promised h e = (e, rw e (hour_promise h))

@@ -1,19 +1,18 @@
 -- What refuses a reading, and which reading refuses an hour.
 use Prim.Native.Nat.{ℕ, zero, suc}
 use Rattle.std.proofs.Math.Path.{◌≡◌, refl}
-use Rattle.std.proofs.Common.{sym, ap, ◌∙◌, inl, inr, ⊎_elim, arith, lit<}
+use Rattle.std.proofs.Common.{sym, ap, ◌∙◌, inl, inr, ⊎_elim, arith}
 use Rattle.std.specs.Prelude.{true, false, ◌⊎◌, List, [], ◌∷◌, ◌++◌, Float}
+use Rattle.std.specs.Prelude.{Ok as Words, Err as Refused}
 use Rattle.exact.specs.Faults.{◌or_else◌, or_first, or_zero}
 use Rattle.exact.specs.Logic.{All}
 use Rattle.layout.specs.Values.{in_range}
-use Rattle.sheet.specs.Sheet.{word_of}
-use Rattle.recorder.specs.Recording.{usable, channels, kind_of, column_of, reading_of, column_number, float_fault, fault_of, first_fault, word_for, words_for, recorded_of}
-use Rattle.recorder.specs.Parts.{FloatTried, Tries}
-use Rattle.recorder.specs.declared.RecorderReading.TheVariants.{Measured, Substituted, Absent}
+use Rattle.recorder.specs.Recording.{usable, channels, column_of, reading_of, column_number, float_fault, fault_of, first_fault, word_for, words_for, Recorded, recorded_of}
+use Rattle.refusals.specs.Refusals.{recorder_number}
+use Rattle.refusals.specs.declared.RecorderRefusal.{RecorderRefusal}
+use Rattle.refusals.proofs.Numbers.{recorder_positive}
 use Rattle.recorder.specs.declared.RecorderHour.{RecorderHour}
 use Rattle.recorder.specs.declared.HourWords.{HourWords}
-use Rattle.recorder.specs.declared.Recorded.TheVariants.{Words, Refused}
-use Rattle.recorder.specs.declared.Tried.{Tried}
 use Rattle.recorder.specs.declared.Channel.{Channel}
 use Rattle.recorder.specs.declared.Channel.TheVariants.{So2, Nox, Co2, Flow}
 
@@ -30,18 +29,6 @@ module _ (c : Channel) (x : Float) where
   unfolding float_fault
   fault_none e i = rw (e, float_fault, i)
 
--- a reading with a float is tried as its float is, and an absent one is not
-
-module _ (c : Channel) (x : Float) (r : Tried) where
-  pub measured_tries : FloatTried c x r → Tries c (Measured x) r
-  measured_tries t = record { fault = t.fault; held = t.held; word = λ z. ap (word_of (kind_of c)) (t.units z) }
-
-  pub substituted_tries : FloatTried c x r → Tries c (Substituted x) r
-  substituted_tries t = record { fault = t.fault; held = t.held; word = λ z. ap (word_of (kind_of c)) (t.units z) }
-
-pub absent_tries : (c : Channel) → Tries c Absent (record { fault = 44; units = 0 })
-absent_tries c = record { fault = refl; held = lit< tt; word = λ z. absurd (omega arith) }
-
 -- the first fault of an hour
 
 split_first : (a b n : ℕ) → a or_else b ≡ n → (a ≡ n) ⊎ ((a ≡ 0) × (b ≡ n))
@@ -54,30 +41,37 @@ module _ (h : RecorderHour) where
   refused_by zero e z = absurd (z refl)
   refused_by (suc n) e z = rw (e, recorded_of)
 
-  module _ (n : ℕ) (some : n ≡ 0 → ⊥) where
+  module _ (e : RecorderRefusal) where
+    abbrev n : ℕ
+    n = recorder_number e
+
+    some : n ≡ 0 → ⊥
+    some z = omega (arith, recorder_positive e)
+
     pub so2_refuses : n ≡ fault_of So2 h.so2 → Refused n ≡ recorded_of h
     so2_refuses e = refused_by n (rw (← e) (or_first n _ some)) some
 
-    pub nox_refuses : 0 ≡ fault_of So2 h.so2 → n ≡ fault_of Nox h.nox → Refused n ≡ recorded_of h
-    nox_refuses a e = refused_by n (rw (← a, ← e) (or_first n _ some)) some
+    pub nox_refuses : fault_of So2 h.so2 ≡ 0 → n ≡ fault_of Nox h.nox → Refused n ≡ recorded_of h
+    nox_refuses a e = refused_by n (rw (a, ← e) (or_first n _ some)) some
 
-    pub co2_refuses : 0 ≡ fault_of So2 h.so2 → 0 ≡ fault_of Nox h.nox → n ≡ fault_of Co2 h.co2 → Refused n ≡ recorded_of h
-    co2_refuses a b e = refused_by n (rw (← a, ← b, ← e) (or_first n _ some)) some
+    pub co2_refuses : fault_of So2 h.so2 ≡ 0 → fault_of Nox h.nox ≡ 0 → n ≡ fault_of Co2 h.co2 → Refused n ≡ recorded_of h
+    co2_refuses a b e = refused_by n (rw (a, b, ← e) (or_first n _ some)) some
 
-    pub flow_refuses : 0 ≡ fault_of So2 h.so2 → 0 ≡ fault_of Nox h.nox → 0 ≡ fault_of Co2 h.co2 → n ≡ fault_of Flow h.flow →
-        Refused n ≡ recorded_of h
-    flow_refuses a b d e = refused_by n (rw (← a, ← b, ← d, ← e) (or_first n 0 some)) some
+    pub flow_refuses : fault_of So2 h.so2 ≡ 0 → fault_of Nox h.nox ≡ 0 → fault_of Co2 h.co2 ≡ 0 → n ≡ fault_of Flow h.flow → Refused n ≡ recorded_of h
+    flow_refuses a b d e = refused_by n (rw (a, b, d, ← e) (or_first n 0 some)) some
 
-  pub all_taken : 0 ≡ fault_of So2 h.so2 → 0 ≡ fault_of Nox h.nox → 0 ≡ fault_of Co2 h.co2 → 0 ≡ fault_of Flow h.flow →
+  all_taken : fault_of So2 h.so2 ≡ 0 → fault_of Nox h.nox ≡ 0 → fault_of Co2 h.co2 ≡ 0 → fault_of Flow h.flow ≡ 0 →
       Words (words_for h) ≡ recorded_of h
   unfolding recorded_of
-  all_taken a b d e = let z : first_fault h channels ≡ 0 = rw (← a, ← b, ← d, ← e) in rw (z, recorded_of)
+  all_taken a b d e = let z : first_fault h channels ≡ 0 = rw (a, b, d, e) in rw (z, recorded_of)
 
   -- the words one by one
-  pub words_made : {so2 nox co2 flow substituted : ℕ} → so2 ≡ word_for So2 h.so2 → nox ≡ word_for Nox h.nox → co2 ≡ word_for Co2 h.co2 →
-      flow ≡ word_for Flow h.flow → substituted ≡ (words_for h).substituted → Words (words_for h) ≡ recorded_of h →
+  pub words_made : {so2 nox co2 flow substituted : ℕ} →
+      (fault_of So2 h.so2 ≡ 0) × (so2 ≡ word_for So2 h.so2) → (fault_of Nox h.nox ≡ 0) × (nox ≡ word_for Nox h.nox) →
+      (fault_of Co2 h.co2 ≡ 0) × (co2 ≡ word_for Co2 h.co2) → (fault_of Flow h.flow ≡ 0) × (flow ≡ word_for Flow h.flow) →
+      substituted ≡ (words_for h).substituted →
       Words (record { so2 = so2; nox = nox; co2 = co2; flow = flow; substituted = substituted }) ≡ recorded_of h
-  words_made a b d e n t = rw (a, b, d, e, n) t
+  words_made a b d e n = rw (a.1, b.1, d.1, e.1, n) (all_taken a.0 b.0 d.0 e.0)
 
   -- what an answer tells of the faults
 
@@ -99,7 +93,8 @@ module _ (h : RecorderHour) where
   unfolding recorded_of
   words_given w e = go (first_fault h channels) refl e
     where
-      go : (n : ℕ) → first_fault h channels ≡ n → elim n [ zero ↦ Words (words_for h) | suc number ↦ Refused (suc number) ] ≡ Words w → Given w
+      go : (n : ℕ) → first_fault h channels ≡ n →
+          ◌≡◌ {A = Recorded} (elim n [ zero ↦ Words (words_for h) | suc number ↦ Refused (suc number) ]) (Words w) → Given w
       go zero f g = record { none = none_of_lem (none_there channels f); words = cc }
       go (suc n) f g = absurd (let z : ◌≡◌ {A = ℕ} 0 1 = cc in omega arith)
 
@@ -135,7 +130,8 @@ module _ (h : RecorderHour) where
   unfolding recorded_of
   number_refused n e = go (first_fault h channels) refl e
     where
-      go : (m : ℕ) → first_fault h channels ≡ m → elim m [ zero ↦ Words (words_for h) | suc number ↦ Refused (suc number) ] ≡ Refused n →
+      go : (m : ℕ) → first_fault h channels ≡ m →
+          ◌≡◌ {A = Recorded} (elim m [ zero ↦ Words (words_for h) | suc number ↦ Refused (suc number) ]) (Refused n) →
           Faulty channels n × (n ≡ 0 → ⊥)
       go zero f g = absurd (let z : ◌≡◌ {A = ℕ} 0 1 = cc in omega arith)
       go (suc m) f g =

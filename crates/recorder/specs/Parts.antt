@@ -1,9 +1,11 @@
 -- What each step from a float to a word is to give: the float's parts, its count of units, the reading tried.
-use Rattle.std.specs.Prelude.{ℕ, zero, suc, ◌+◌, ◌*◌, ◌≤◌, ◌<◌, ◌^◌, ◌≡◌, Bool, true, not, ◌&&◌, ◌||◌, eqb, Float}
+use Rattle.std.specs.Prelude.{ℕ, ◌*◌, ◌≤◌, ◌<◌, ◌^◌, ◌≡◌, true, Float, Result, Ok, Err}
 use Rattle.std.specs.Float.{binary64}
 use Rattle.std.specs.Float.Ieee.{low}
 use Rattle.std.specs.Float.Ieee.Positive.{num, den}
 use Rattle.exact.specs.Rounding.{nearest}
+use Rattle.refusals.specs.Refusals.{recorder_number}
+use Rattle.refusals.specs.declared.RecorderRefusal.{RecorderRefusal}
 use Rattle.sheet.specs.Sheet.{value_size, word_of}
 use Rattle.recorder.specs.Recording.{usable, units_in, kind_of, column_of, recording_unit, float_fault, fault_of, word_for}
 use Rattle.recorder.specs.declared.RecorderReading.{RecorderReading}
@@ -12,24 +14,17 @@ use Rattle.recorder.specs.declared.Channel.TheVariants.{So2, Nox, Co2, Flow}
 use Rattle.recorder.specs.declared.Parts.{Parts}
 use Rattle.recorder.specs.declared.RecordingUnit.{RecordingUnit}
 use Rattle.recorder.specs.declared.ChannelRow.{ChannelRow}
-use Rattle.recorder.specs.declared.Tried.{Tried}
 
 -- floats are counted in 1 / 2^1074, the smallest
 abbrev pub float_scale : ℕ
 float_scale = low binary64
 
--- the parts that a sign, an exponent field and the digits below it make. Field 0 has no leading one and counts as field 1; field 2047 has no value.
-abbrev pub parts_in : (negative : Bool) → (field digits : ℕ) → Parts
-parts_in negative zero digits = record { usable = not negative || eqb digits 0; significand = digits; exponent = 0 }
-parts_in negative (suc exponent) digits =
-    record { usable = not negative && not (eqb (suc exponent) 2047); significand = 2 ^ 52 + digits; exponent = exponent }
-
--- a float's value is significand × 2^exponent / 2^1074; above the smallest exponent the significand has all its 53 digits
+-- a usable float's value is significand × 2^exponent / 2^1074; above the smallest exponent the significand has all its 53 digits
 pub record PartsOf (x : Float) (p : Parts) : Type 0 where
-  pub told : p.usable ≡ usable x
+  pub is_usable : usable x ≡ true
   pub short : p.significand < 2 ^ 53
   pub long : 0 < p.exponent → 2 ^ 52 ≤ p.significand
-  pub exact : usable x ≡ true → num x * 2 ^ float_scale ≡ p.significand * 2 ^ p.exponent * den x
+  pub exact : num x * 2 ^ float_scale ≡ p.significand * 2 ^ p.exponent * den x
 
 -- that value over a unit, rounded half up
 abbrev pub parts_count : Parts → RecordingUnit → ℕ
@@ -54,12 +49,12 @@ gone_at Flow = 53
 abbrev pub channel_row : Channel → ChannelRow
 channel_row c = record { column = column_of c; unit = record { num = (recording_unit c).num; den = (recording_unit c).den; gone = gone_at c } }
 
-pub record FloatTried (c : Channel) (x : Float) (r : Tried) : Type 0 where
-  pub fault : r.fault ≡ float_fault c x
-  pub held : r.units < value_size
-  pub units : r.fault ≡ 0 → r.units ≡ units_in (recording_unit c) x
+-- a float tried, and a reading: its units, or why there are none
 
-pub record Tries (c : Channel) (reading : RecorderReading) (r : Tried) : Type 0 where
-  pub fault : r.fault ≡ fault_of c reading
-  pub held : r.units < value_size
-  pub word : r.fault ≡ 0 → word_of (kind_of c) r.units ≡ word_for c reading
+abbrev pub FloatUnits : Channel → Float → Result ℕ RecorderRefusal → Type 0
+FloatUnits c x (Ok units) = (float_fault c x ≡ 0) × (units < value_size) × (units ≡ units_in (recording_unit c) x)
+FloatUnits c x (Err e) = recorder_number e ≡ float_fault c x
+
+abbrev pub ReadingUnits : Channel → RecorderReading → Result ℕ RecorderRefusal → Type 0
+ReadingUnits c reading (Ok units) = (fault_of c reading ≡ 0) × (units < value_size) × (word_of (kind_of c) units ≡ word_for c reading)
+ReadingUnits c reading (Err e) = recorder_number e ≡ fault_of c reading

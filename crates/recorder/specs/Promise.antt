@@ -1,6 +1,7 @@
 -- What is promised of an hour's words: every reading is good; each float is an unrounded reading that records as its word; no word is
 -- refused in a sheet; the substituted readings are counted; and a refusal names the first reading that is not good.
 use Rattle.std.specs.Prelude.{ℕ, ◌+◌, ◌*◌, ◌≡◌, true, false, List, [], ◌∷◌, ◌++◌, length, get_or, Float}
+use Rattle.std.specs.Prelude.{Ok as Words, Err as Refused}
 use Rattle.exact.specs.Logic.{All}
 use Rattle.exact.specs.Fraction.{Fraction, whole}
 use Rattle.exact.specs.Rounding.{Records}
@@ -15,7 +16,6 @@ use Rattle.recorder.specs.declared.RecorderReading.{RecorderReading}
 use Rattle.recorder.specs.declared.RecorderReading.TheVariants.{Measured, Substituted, Absent}
 use Rattle.recorder.specs.declared.RecorderHour.{RecorderHour}
 use Rattle.recorder.specs.declared.HourWords.{HourWords}
-use Rattle.recorder.specs.declared.Recorded.TheVariants.{Words, Refused}
 use Rattle.recorder.specs.declared.Channel.{Channel}
 
 -- the exact values of an hour's floats; an absent one never comes to words

@@ -1,5 +1,6 @@
 -- An hour as a recorder hands it over: which words it comes to, or which refusal. What is said of a float is said of its value.
-use Rattle.std.specs.Prelude.{ℕ, zero, suc, ◌*◌, Bool, false, not, ◌||◌, List, [], ◌∷◌, eqb, Float}
+use Rattle.std.specs.Prelude.{ℕ, zero, suc, ◌*◌, Bool, false, not, ◌||◌, List, [], ◌∷◌, eqb, Float, Result}
+use Rattle.std.specs.Prelude.{Ok as Words, Err as Refused}
 use Rattle.std.specs.Float.{nan, inf, fin}
 use Rattle.std.specs.Float.Ieee.Positive.{num, den, den_pos}
 use Rattle.exact.specs.Faults.{◌or_else◌, unless}
@@ -14,8 +15,6 @@ use Rattle.recorder.specs.declared.RecorderReading.{RecorderReading}
 use Rattle.recorder.specs.declared.RecorderReading.TheVariants.{Measured, Substituted, Absent}
 use Rattle.recorder.specs.declared.RecorderHour.{RecorderHour}
 use Rattle.recorder.specs.declared.HourWords.{HourWords}
-use Rattle.recorder.specs.declared.Recorded.{Recorded}
-use Rattle.recorder.specs.declared.Recorded.TheVariants.{Words, Refused}
 use Rattle.recorder.specs.declared.Channel.{Channel}
 use Rattle.recorder.specs.declared.Channel.TheVariants.{So2, Nox, Co2, Flow}
 
@@ -102,6 +101,10 @@ words_for h = record {
   flow = word_for Flow h.flow;
   substituted = total_of (λ c. substituted_in (reading_of c h)) channels;
 }
+
+-- an hour recorded as the paper has it: the words, or the number of the refusal
+abbrev pub Recorded : Type 0
+Recorded = Result HourWords ℕ
 
 unfoldable pub recorded_of : RecorderHour → Recorded
 recorded_of h = elim (first_fault h channels) [ zero ↦ Words (words_for h) | suc number ↦ Refused (suc number) ]

@@ -1,13 +1,15 @@
 // An hour as a recorder hands it over, made into words of the sheet: each reading rounded half up from the exact value of its float.
 #![tactic(auto)]
 
-ghost use Rattle.std.specs.Prelude.{◌≡◌, ◌*◌, ◌≤◌, ◌<◌, ◌^◌};
-ghost use Rattle.recorder.specs.Recording.{substituted_in, recorded_of, recorder_numbers};
+ghost use Rattle.std.specs.Prelude.{◌≡◌, ◌*◌, ◌≤◌, ◌<◌, ◌^◌, false, MatchOption};
+ghost use Rattle.refusals.specs.Refusals.{told, recorder_number};
+ghost use Rattle.recorder.specs.Recording.{usable, substituted_in, recorded_of, recorder_numbers};
 ghost use Rattle.recorder.specs.Promise.{RecorderPromise};
-ghost use Rattle.recorder.specs.Parts.{PartsOf, float_scale, parts_count, UnitRoom, channel_row, FloatTried, Tries};
+ghost use Rattle.recorder.specs.Parts.{PartsOf, float_scale, parts_count, UnitRoom, channel_row, FloatUnits, ReadingUnits};
 
 use layout::values;
 use layout::values::Value;
+use refusals::RecorderRefusal;
 
 // One reading of an hour: its float, measured or substituted, or none.
 #[derive(Clone, Copy)]
@@ -36,13 +38,6 @@ pub struct HourWords {
     pub substituted: u32,
 }
 
-// The words, or the number of a refusal.
-#[derive(Clone, Copy)]
-pub enum Recorded {
-    Words(HourWords),
-    Refused(u64),
-}
-
 // The readings of an hour, in the order in which they are tried.
 #[derive(Clone, Copy)]
 pub enum Channel {
@@ -63,10 +58,9 @@ const ALL_ONES: u64 = 2047;
 // Floats are counted in 1 / 2^1074, the smallest.
 const SCALE: u64 = 1074;
 
-// What a float is to a recorder: whether it can be a reading and, where it can, its value, significand × 2^exponent / 2^1074.
+// A float that can be a reading: its value is significand × 2^exponent / 2^1074.
 #[derive(Clone, Copy)]
 struct Parts {
-    usable: bool,
     significand: u64,
     exponent: u64,
 }
@@ -99,39 +93,27 @@ struct ChannelRow {
     unit: RecordingUnit,
 }
 
-// A reading tried: its units, or 44, 45 or 46 in `fault`.
-#[derive(Clone, Copy)]
-struct Tried {
-    fault: u64,
-    units: u64,
-}
-
-// A float taken apart by its bits. Those of a NaN say nothing, so it is told before they are asked for.
-fn parts_of(x: f64) -> Parts
-    ensures { PartsOf x result }
+// A float taken apart by its bits, unless it cannot be a reading. Those of a NaN say nothing, so it is told before they are asked for.
+fn parts_of(x: f64) -> Option<Parts>
+    ensures { MatchOption result (usable x ≡ false) (PartsOf x) }
 {
     if x != x {
-        return Parts {
-            usable: false,
-            significand: 0,
-            exponent: 0,
-        };
+        return None;
     }
     let bits = f64::to_bits(x);
-    let negative = bits >= SIGN;
-    let field = bits % SIGN / HIDDEN;
     let digits = bits % HIDDEN;
-    if field == 0 {
-        return Parts {
-            usable: !negative | (digits == 0),
+    match bits % SIGN / HIDDEN {
+        // Minus zero is zero.
+        _ if bits > SIGN => None,
+        ALL_ONES => None,
+        0 => Some(Parts {
             significand: digits,
             exponent: 0,
-        };
-    }
-    Parts {
-        usable: !negative & (field != ALL_ONES),
-        significand: HIDDEN + digits,
-        exponent: field - 1,
+        }),
+        field => Some(Parts {
+            significand: HIDDEN + digits,
+            exponent: field - 1,
+        }),
     }
 }
 
@@ -170,44 +152,30 @@ fn count_at(p: Parts, u: RecordingUnit) -> u64
     exact::half_up(u.den * p.significand, u.num << places)
 }
 
-// 45, 46 or the units. A float from 2^52 on lies beyond every range, and nothing is formed of it.
-fn float_tried(c: Channel, x: f64) -> Tried
-    ensures { FloatTried c x result }
+// The units of a float. One from 2^52 on lies beyond every range, and nothing is formed of it.
+fn float_units(c: Channel, x: f64) -> Result<u64, RecorderRefusal>
+    ensures { FloatUnits c x result }
 {
-    let p = parts_of(x);
-    if !p.usable {
-        return Tried {
-            fault: 45,
-            units: 0,
-        };
-    }
-    if p.exponent >= SCALE {
-        return Tried {
-            fault: 46,
-            units: 0,
-        };
+    let Some(parts) = parts_of(x) else {
+        return Err(RecorderRefusal::Unusable);
+    };
+    if parts.exponent >= SCALE {
+        return Err(RecorderRefusal::Range);
     }
     let row = channel_row(c);
-    let units = count_at(p, row.unit);
+    let units = count_at(parts, row.unit);
     if !values::in_range(row.column, row.column.step * units) {
-        return Tried {
-            fault: 46,
-            units: 0,
-        };
+        return Err(RecorderRefusal::Range);
     }
-    Tried { fault: 0, units }
+    Ok(units)
 }
 
-fn reading_tried(c: Channel, reading: RecorderReading) -> Tried
-    ensures { Tries c reading result }
+fn reading_units(c: Channel, reading: RecorderReading) -> Result<u64, RecorderRefusal>
+    ensures { ReadingUnits c reading result }
 {
     match reading {
-        RecorderReading::Measured(x) => float_tried(c, x),
-        RecorderReading::Substituted(x) => float_tried(c, x),
-        RecorderReading::Absent => Tried {
-            fault: 44,
-            units: 0,
-        },
+        RecorderReading::Measured(x) | RecorderReading::Substituted(x) => float_units(c, x),
+        RecorderReading::Absent => Err(RecorderRefusal::Absent),
     }
 }
 
@@ -221,38 +189,23 @@ fn substituted(reading: RecorderReading) -> u32
     }
 }
 
-// The four words of an hour, or the first refusal: SO2, NOx, CO2 and flow in turn, each tried for 44, 45 and 46.
-pub fn hour_words(h: RecorderHour) -> Recorded
-    ensures { (result ≡ recorded_of h) × RecorderPromise h (recorder_numbers result) }
+// The four words of an hour, or the first refusal: SO2, NOx, CO2 and flow in turn.
+pub fn hour_words(h: RecorderHour) -> Result<HourWords, RecorderRefusal>
+    ensures { (told recorder_number result ≡ recorded_of h)
+        × RecorderPromise h (recorder_numbers (told recorder_number result)) }
 {
-    let so2_reading = h.so2;
-    let nox_reading = h.nox;
-    let co2_reading = h.co2;
-    let flow_reading = h.flow;
-    let so2 = reading_tried(Channel::So2, so2_reading);
-    if so2.fault != 0 {
-        return Recorded::Refused(so2.fault);
-    }
-    let nox = reading_tried(Channel::Nox, nox_reading);
-    if nox.fault != 0 {
-        return Recorded::Refused(nox.fault);
-    }
-    let co2 = reading_tried(Channel::Co2, co2_reading);
-    if co2.fault != 0 {
-        return Recorded::Refused(co2.fault);
-    }
-    let flow = reading_tried(Channel::Flow, flow_reading);
-    if flow.fault != 0 {
-        return Recorded::Refused(flow.fault);
-    }
-    Recorded::Words(HourWords {
-        so2: sheet::word_of(sheet::SO2_KIND, so2.units),
-        nox: sheet::word_of(sheet::NOX_KIND, nox.units),
-        co2: sheet::word_of(sheet::CO2_KIND, co2.units),
-        flow: sheet::word_of(sheet::FLOW_KIND, flow.units),
-        substituted: substituted(so2_reading)
-            + substituted(nox_reading)
-            + substituted(co2_reading)
-            + substituted(flow_reading),
+    let so2 = reading_units(Channel::So2, h.so2)?;
+    let nox = reading_units(Channel::Nox, h.nox)?;
+    let co2 = reading_units(Channel::Co2, h.co2)?;
+    let flow = reading_units(Channel::Flow, h.flow)?;
+    Ok(HourWords {
+        so2: sheet::word_of(sheet::SO2_KIND, so2),
+        nox: sheet::word_of(sheet::NOX_KIND, nox),
+        co2: sheet::word_of(sheet::CO2_KIND, co2),
+        flow: sheet::word_of(sheet::FLOW_KIND, flow),
+        substituted: substituted(h.so2)
+            + substituted(h.nox)
+            + substituted(h.co2)
+            + substituted(h.flow),
     })
 }

@@ -15,7 +15,7 @@ pub const HOUR_WORDS: usize = 6;
 // A word is its kind times this and its value.
 pub const VALUE_SIZE: u64 = 536870912;
 
-// The kinds of an hour's readings, each the place of its word in the hour.
+// The kinds of an hour's readings, each the place of its word in the hour. Numbers, since a word may say any of eight.
 pub const SO2_KIND: u64 = 1;
 
 pub const NOX_KIND: u64 = 2;
@@ -50,7 +50,7 @@ pub struct SheetHour {
 pub fn word_apart(word: u32) -> Word
     ensures { result ≡ apart word }
 {
-    let bits = word as u64;
+    let bits = u64::from(word);
     Word {
         kind: bits / VALUE_SIZE,
         value: bits % VALUE_SIZE,
@@ -73,6 +73,7 @@ fn word_value(sheet: &[u32], i: usize) -> u64
 }
 
 // The k-th hour of the sheet, from 0.
+#[tactic(auto, unfolding(crate::specs::Sheet::sheet_hour_in))]
 pub fn hour_at(sheet: &[u32], k: usize) -> SheetHour
     requires { hour_words * k + hour_words ≤ length sheet.now }
     ensures { result ≡ sheet_hour sheet.now k }
@@ -115,47 +116,48 @@ pub fn shape_of(sheet: &[u32]) -> Shape
 }
 
 // 31: year, quarter and stack name.
+#[tactic(auto, unfolding(crate::specs::SheetTests::heading_holds))]
 pub fn heading_holds(name: &[u8], year: u64, quarter: u64) -> bool
     ensures { result ≡ heading_holds year quarter name.now }
 {
     values::within(values::YEAR, year)
-        & values::within(values::QUARTER, quarter)
-        & !columns::all_blank(name)
-        & columns::all_printable(name)
+        && values::within(values::QUARTER, quarter)
+        && !columns::all_blank(name)
+        && columns::all_printable(name)
 }
 
 // 31: the kinds of the words of the k-th hour are 0, 1 and so on.
+#[tactic(auto, using(crate::proofs::Words::kinds_more, crate::proofs::Words::kinds_stop, crate::proofs::Words::kinds_end))]
 pub fn kinds_hold(sheet: &[u32], k: usize) -> bool
     requires { hour_words * k + hour_words ≤ length sheet.now }
     ensures { result ≡ hour_kinds sheet.now k }
 {
     let first = HOUR_WORDS * k;
-    let mut j = 0;
-    while j < HOUR_WORDS {
-        let kind = word_apart(sheet[first + j]).kind;
-        if kind != j as u64 {
+    for j in 0..HOUR_WORDS {
+        if word_apart(sheet[first + j]).kind != j as u64 {
             return false;
         }
-        j += 1;
     }
     true
 }
 
 // 31: an hour that is to rise from `from` on and lie below a number.
+#[tactic(auto, unfolding(crate::specs::SheetTests::hour_holds))]
 pub fn hour_holds(below: u64, from: u64, h: SheetHour) -> bool
     ensures { result ≡ hour_holds below from h }
 {
-    (from <= h.hour) & (h.hour < below)
+    from <= h.hour && h.hour < below
 }
 
 // 32: time and readings lie in their ranges, and the flow is a whole thousand.
+#[tactic(auto, unfolding(crate::specs::SheetTests::readings_hold_in))]
 pub fn readings_hold(h: SheetHour) -> bool
     ensures { result ≡ readings_hold h }
 {
     values::within(values::TIME_HOURS, h.time)
-        & values::within(values::SO2_PPM, h.so2)
-        & values::within(values::NOX_PPM, h.nox)
-        & values::within(values::CO2_PERCENT, h.co2)
-        & values::within(values::FLOW_SCFH, h.scfh)
-        & values::within(values::F_FACTOR, h.fc)
+        && values::within(values::SO2_PPM, h.so2)
+        && values::within(values::NOX_PPM, h.nox)
+        && values::within(values::CO2_PERCENT, h.co2)
+        && values::within(values::FLOW_SCFH, h.scfh)
+        && values::within(values::F_FACTOR, h.fc)
 }

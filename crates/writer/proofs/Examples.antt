@@ -16,9 +16,8 @@ use Rattle.sheet.specs.Sheet.{sheet_hour_in, sheet_hours_in}
 use Rattle.sheet.specs.SheetTests.{every, heading_holds, hour_holds, hours_rise, kinds_hold_in, kinds_rise_in, readings_hold_in, sheet_holds_in}
 use Rattle.writer.specs.Refusals.{figures_hold, refusal_in}
 use Rattle.records.specs.Records.{headed, valued, facility_record, totals_record}
-use Rattle.writer.specs.Written.{hour_record, written_records, lined, report, answered, buffered, answered_in, buffered_in}
-use Rattle.writer.specs.declared.Written.{Written}
-use Rattle.writer.specs.declared.Written.TheVariants.{Length, Refused}
+use Rattle.writer.specs.Written.{Written, hour_record, written_records, lined, report, answered, buffered, answered_in, buffered_in}
+use Rattle.std.specs.Prelude.{Ok as Length, Err as Refused}
 
 -- STACK1
 abbrev pub stack : List ℕ

@@ -20,6 +20,7 @@ use Rattle.layout.proofs.RunLaws.{once_type, in_run, once_or_dated_lem, dated_ru
 use Rattle.layout.specs.declared.Run.TheVariants.{Once}
 use Rattle.stamp.specs.Stamp.{stamp_of}
 use Rattle.totals.specs.Totals.{quarter_totals}
+use Rattle.totals.specs.declared.Quarter.{Quarter}
 use Rattle.layout.specs.declared.RecordType.{RecordType}
 use Rattle.layout.specs.declared.RecordType.TheVariants.{Facility, QuarterTotals}
 use Rattle.layout.specs.declared.Shape.{Shape}
@@ -204,3 +205,7 @@ module _ (year quarter : ℕ) (name : List ℕ) (named : length name ≡ stack_w
 
   pub report_written_lem : with_all ≡ put 1 text before
   report_written_lem = ext_get_or 0 with_all whole (all_right 0).long (λ i h. (all_right i).byte tt)
+
+pub with_totals : (name : List ℕ) {at at' : ℕ} {q q' : Quarter} {b b' : List ℕ} → at ≡ at' → q ≡ q' → b ≡ b'
+    → put (at + 1) (ended (totals_record name q)) b ≡ put (at' + 1) (ended (totals_record name q')) b'
+with_totals name at q b = rw (at, q, b)

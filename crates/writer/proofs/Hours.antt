@@ -1,13 +1,17 @@
 -- The hours from hour k on: their lines, put into the buffer as it is, and the running totals, grown by them.
 use Prim.Native.Nat.{ℕ, ◌+◌, ◌-◌, ◌≤◌, ◌<◌}
-use mathlib.Core.Path.{◌≡◌, refl, sym, ap, ◌∙◌}
+use mathlib.Core.Path.{◌≡◌, sym, ap, ◌∙◌}
 use mathlib.Core.List.{List}
 use native.Mathlib.Numerals.{add-one}
 use native.Mathlib.Omega.{arith}
 use lib.ListN.{length}
 use Rattle.exact.specs.Logic.{ranked, ranked_next, ranked_end}
-use Rattle.layout.specs.Layout.{order, hourly}
-use Rattle.stamp.specs.Stamp.{stamp_of}
+use Rattle.columns.specs.Written.{digits_of}
+use Rattle.layout.specs.Layout.{date_width, order, hourly}
+use Rattle.stamp.specs.Stamp.{stamp_number, stamp_of}
+use Rattle.stamp.specs.StampLaws.{stamp_digits}
+use Rattle.formulas.specs.declared.hour.Hour.{Hour}
+use Rattle.sheet.specs.declared.SheetHour.{SheetHour}
 use Rattle.totals.specs.Totals.{Room, no_totals, with_hour, running_totals, quarter_of, quarter_totals}
 use Rattle.totals.proofs.TotalLaws.{running_totals_lem, running_next, running_end, grown_hours, quarter_formed}
 use Rattle.totals.specs.declared.Totals.{Totals}
@@ -52,35 +56,29 @@ module _ (year quarter : ℕ) (name sheet : List ℕ) (s : Shape) (k : ℕ) (buf
 
 -- what stands before hour k, in a buffer that was `before`
 pub record Passed (year quarter : ℕ) (name sheet before : List ℕ) (s : Shape) (buffer : List ℕ) (totals : Totals) (k : ℕ) : Type 0 where
-  pub up_to : k ≤ s.hours
   pub room : Room totals
   pub counted : totals.hours ≡ k
   pub totalled : totals_left sheet s.hours k totals ≡ running_totals no_totals (recorded_hours (report_hours (sheet_hours sheet)))
-  pub kept : length buffer ≡ length before
   pub lines : lines_left year quarter name sheet s k buffer ≡ hours_lines year quarter name s 0 (report_hours (sheet_hours sheet)) before
 
 module _ (year quarter : ℕ) (name sheet before : List ℕ) (s : Shape) (shaped : s ≡ shape_of sheet) where
   pub passed_start : {totals : Totals} → totals ≡ no_totals → Room totals → Passed year quarter name sheet before s before totals 0
   passed_start e r = record {
-    up_to = omega arith;
     room = r;
     counted = ap (λ (t : Totals). t.hours) e;
     totalled = rw (e, shaped, sheet_hours_whole);
-    kept = refl;
     lines = rw (shaped, sheet_hours_whole);
   }
 
   module _ {buffer : List ℕ} {totals : Totals} {k : ℕ} (p : Passed year quarter name sheet before s buffer totals k) where
     pub passed_more : {buffer' : List ℕ} {totals' : Totals} → k < s.hours → Room totals'
         → totals' ≡ with_hour totals (recorded_hour (sheet_hour sheet k)).figures (recorded_hour (sheet_hour sheet k)).time
-        → length buffer' ≡ length buffer → buffer' ≡ with_hour_lines year quarter name sheet s k buffer
+        → buffer' ≡ with_hour_lines year quarter name sheet s k buffer
         → Passed year quarter name sheet before s buffer' totals' (k + 1)
-    passed_more {buffer'} {totals'} h r t l b = record {
-      up_to = omega arith;
+    passed_more {buffer'} {totals'} h r t b = record {
       room = r;
       counted = ap (λ (t : Totals). t.hours) t ∙ grown_hours totals _ _ ∙ ap (λ (n : ℕ). n + 1) p.counted;
       totalled = totals_more sheet s.hours k totals totals' h t ∙ p.totalled;
-      kept = l ∙ p.kept;
       lines = rw b (lines_more year quarter name sheet s k buffer h ∙ p.lines);
     }
 
@@ -100,3 +98,10 @@ still_fits f e = record { writable = f.writable; named = f.named; room = omega (
 
 pub hour_still_fits : {s : Shape} {k : ℕ} {name buffer buffer' : List ℕ} → HourFits s k name buffer → length buffer' ≡ length buffer → HourFits s k name buffer'
 hour_still_fits f e = record { rank = f.rank; listed = f.listed; held = f.held; named = f.named; room = omega (arith, f.room) }
+
+-- an hour's lines, dated and recorded
+pub as_lines : (name : List ℕ) (s : Shape) (k year quarter : ℕ) (buffer : List ℕ) {date : ℕ} {h h' : SheetHour} {r : Hour}
+    → date ≡ stamp_number year quarter h.hour → h ≡ h' → r ≡ recorded_hour h
+    → hour_lines name s k (digits_of date_width date) r (hourly order) buffer
+    ≡ hour_lines name s k (stamp_of year quarter h'.hour) (recorded_hour h') (hourly order) buffer
+as_lines name s k year quarter buffer d e r = rw (d, stamp_digits, r, e)

@@ -24,16 +24,16 @@ unfolding first_tried
 tried_first zero b e = sym e
 tried_first (suc a) b e = rw e
 
-pub tried_least : (a b : ℕ) → (a ≡ 0 → ⊥) → (b ≡ 0 → ⊥) → b < a → b ≡ first_tried a b
+pub tried_least : (a b : ℕ) → 1 ≤ a → 1 ≤ b → b < a → b ≡ first_tried a b
 unfolding first_tried
-tried_least zero b p q h = absurd (p refl)
-tried_least (suc a) zero p q h = absurd (q refl)
+tried_least zero b p q h = absurd (omega arith)
+tried_least (suc a) zero p q h = absurd (omega arith)
 tried_least (suc a) (suc b) p q h = omega arith
 
-pub tried_kept : (a b : ℕ) → (a ≡ 0 → ⊥) → (b ≡ 0 → ⊥) → a ≤ b → a ≡ first_tried a b
+pub tried_kept : (a b : ℕ) → 1 ≤ a → 1 ≤ b → a ≤ b → a ≡ first_tried a b
 unfolding first_tried
-tried_kept zero b p q h = absurd (p refl)
-tried_kept (suc a) zero p q h = absurd (q refl)
+tried_kept zero b p q h = absurd (omega arith)
+tried_kept (suc a) zero p q h = absurd (omega arith)
 tried_kept (suc a) (suc b) p q h = omega arith
 
 tried_assoc : (a b c : ℕ) → first_tried (first_tried a b) c ≡ first_tried a (first_tried b c)

@@ -14,14 +14,14 @@ use Rattle.layout.specs.LayoutLaws.{report_length_lem}
 use Rattle.sheet.specs.Sheet.{shape_of, sheet_hours}
 use Rattle.sheet.specs.SheetTests.{every, sheet_holds, readings_hold}
 use Rattle.writer.specs.Refusals.{figures_fit, refusal_of, refusal_in}
-use Rattle.writer.specs.Written.{written_number, shortest_report, answered, answered_in}
+use Rattle.writer.specs.Written.{Written, written_number, shortest_report, answered, answered_in}
 use Rattle.writer.specs.Writable.{Writable}
 use Rattle.writer.proofs.RefusalLaws.{writable}
 use Rattle.writer.specs.WriterClauses.{writer_clauses}
 use Rattle.writer.proofs.WriterClauseLaws.{own_length, refusal_told}
 use Rattle.writer.specs.Table.{InWriterTable}
 use Rattle.writer.specs.Table.InWriterTable.{report_written, refused}
-use Rattle.writer.specs.declared.Written.TheVariants.{Length, Refused}
+use Rattle.std.specs.Prelude.{Ok as Length, Err as Refused}
 
 module _ (year quarter : ℕ) (name sheet : List ℕ) (room : ℕ) where
   -- every answer is of a row
@@ -81,6 +81,6 @@ module _ (year quarter : ℕ) (name sheet : List ℕ) (room : ℕ) where
     where
       go : (f : ℕ) → f ≤ 34
           → shortest_report ≤ written_number (elim f [ zero ↦ Length (report_length (shape_of sheet)) | suc c ↦ Refused (suc c) ])
-          → elim f [ zero ↦ Length (report_length (shape_of sheet)) | suc c ↦ Refused (suc c) ] ≡ Length (report_length (shape_of sheet))
+          → ◌≡◌ {A = Written} (elim f [ zero ↦ Length (report_length (shape_of sheet)) | suc c ↦ Refused (suc c) ]) (Length (report_length (shape_of sheet)))
       go zero s h = refl
       go (suc c) s h = absurd (omega (arith, report_length_lem (shape 0)))

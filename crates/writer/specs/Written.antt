@@ -1,5 +1,6 @@
 -- A report, byte by byte; the writer's answer to a sheet, and the lent buffer afterwards.
-use Rattle.std.specs.Prelude.{ℕ, zero, suc, cond, List, [], ◌∷◌, ◌++◌, map, eqb, length, drop}
+use Rattle.std.specs.Prelude.{ℕ, zero, suc, cond, List, [], ◌∷◌, ◌++◌, map, eqb, length, drop, Result}
+use Rattle.std.specs.Prelude.{Ok as Length, Err as Refused}
 use Rattle.layout.specs.Layout.{once_or_dated, record_of, code_of, order, shape, report_length, joined_runs}
 use Rattle.stamp.specs.Stamp.{stamp_of}
 use Rattle.totals.specs.Totals.{quarter_totals}
@@ -9,8 +10,6 @@ use Rattle.sheet.specs.Sheet.{SheetForm, present_form, shape_of, sheet_hours_in}
 use Rattle.records.specs.Records.{ended, facility_record, dated_record, totals_record}
 use Rattle.writer.specs.Recorded.{ReportHour, recorded_hours, report_hours}
 use Rattle.writer.specs.Refusals.{refusal_in}
-use Rattle.writer.specs.declared.Written.{Written}
-use Rattle.writer.specs.declared.Written.TheVariants.{Length, Refused}
 
 unfoldable pub hour_record : ℕ → ℕ → List ℕ → RecordType → ReportHour → List ℕ
 hour_record year quarter name t h = dated_record name t (stamp_of year quarter h.hour) h.recorded
@@ -33,6 +32,10 @@ lined (r ∷ rs) = ended r ++ lined rs
 -- the lines of each type, in the order of a report
 unfoldable pub report : ℕ → ℕ → List ℕ → List ReportHour → List ℕ
 report year quarter name hours = joined_runs (λ t. lined (written_records year quarter name hours t)) order
+
+-- an answer as the paper has it: the length written, or the number of the refusal
+abbrev pub Written : Type 0
+Written = Result ℕ ℕ
 
 -- what an answer says, as the paper has it: the length written, or the refusal's number alone
 abbrev pub written_number : Written → ℕ

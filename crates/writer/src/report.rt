@@ -31,19 +31,27 @@ fn recorded_hour(h: SheetHour) -> Hour
     }
 }
 
+// The types of which each hour has a line, in the order of a report.
+const HOURLY: [RecordType; 8] = [
+    RecordType::So2Concentration,
+    RecordType::NoxConcentration,
+    RecordType::Co2Concentration,
+    RecordType::VolumetricFlow,
+    RecordType::Operation,
+    RecordType::So2Mass,
+    RecordType::NoxRate,
+    RecordType::Co2Mass,
+];
+
 // The lines of hour k.
+#[tactic(auto, using(crate::proofs::LineSteps::line_more, crate::proofs::LineSteps::line_end))]
 fn write_hour_lines(buffer: &mut [u8], name: &[u8], s: Shape, k: usize, date: u64, h: Hour)
     requires { HourFits s k name.now buffer.old × ReadingsWithin h.readings }
     ensures { buffer.new ≡ hour_lines name.now s k (digits_of date_width date) h (hourly order) buffer.old }
 {
-    records::write_hour(buffer, name, s, RecordType::So2Concentration, k, date, h);
-    records::write_hour(buffer, name, s, RecordType::NoxConcentration, k, date, h);
-    records::write_hour(buffer, name, s, RecordType::Co2Concentration, k, date, h);
-    records::write_hour(buffer, name, s, RecordType::VolumetricFlow, k, date, h);
-    records::write_hour(buffer, name, s, RecordType::Operation, k, date, h);
-    records::write_hour(buffer, name, s, RecordType::So2Mass, k, date, h);
-    records::write_hour(buffer, name, s, RecordType::NoxRate, k, date, h);
-    records::write_hour(buffer, name, s, RecordType::Co2Mass, k, date, h);
+    for t in HOURLY {
+        records::write_hour(buffer, name, s, t, k, date, h);
+    }
 }
 
 // The lines of all hours; returns the totals that they form.
@@ -56,14 +64,12 @@ fn write_hours(buffer: &mut [u8], name: &[u8], sheet: &[u32], year: u64, quarter
 {
     let s = sheet::shape_of(sheet);
     let mut totals = Totals::none();
-    let mut k = 0;
-    while k < s.hours {
+    for k in 0..s.hours {
         let h = sheet::hour_at(sheet, k);
         let date = stamp::stamp_number(year, quarter, h.hour);
         let recorded = recorded_hour(h);
         totals = totals.with_hour(recorded.figures, recorded.time);
         write_hour_lines(buffer, name, s, k, date, recorded);
-        k += 1;
     }
     totals.quarter()
 }
