@@ -3,7 +3,7 @@
 use Prim.Native.Nat.{ℕ, zero, suc, ◌≤◌}
 use Rattle.std.proofs.Math.Path.{◌≡◌, refl}
 use Rattle.std.proofs.Common.{sym, ap, subst, ◌∙◌, arith, take_at}
-use Rattle.std.specs.Prelude.{List, [], ◌∷◌, map, take, drop}
+use Rattle.std.specs.Prelude.{List, [], ◌∷◌, map, take, drop, Ok, Err}
 use Rattle.std.proofs.Math.ListN.{length}
 use Rattle.columns.specs.Columns.{columns}
 use Rattle.layout.specs.Layout.{stack_width, report_length}
@@ -22,7 +22,6 @@ use Rattle.judging.specs.Behind.{SetsBehind}
 use Rattle.checker.specs.Checked.{answer_numbers, checked}
 use Rattle.checker.specs.Promise.{HonestlyRounded}
 use Rattle.checker.proofs.PromiseLaws.{hours_count, honest_checked}
-use Rattle.std.specs.Prelude.{Ok as Accepted}
 use Rattle.sheet.specs.Sheet.{recorded_readings, sheet_hour_count, shape_of, sheet_hours}
 use Rattle.sheet.specs.declared.SheetHour.{SheetHour}
 use Rattle.writer.specs.Recorded.{ReportHour, recorded_hour, recorded_hours, report_hours}
@@ -30,7 +29,6 @@ use Rattle.writer.specs.Refusals.{refusal_of}
 use Rattle.writer.specs.Written.{Written, written_number, shortest_report, report, answered, buffered, answered_in, buffered_in}
 use Rattle.writer.proofs.TableLaws.{not_refused, number_tells}
 use Rattle.writer.proofs.ReportLaws.{report_hours_count, report_shape, report_bytes}
-use Rattle.std.specs.Prelude.{Ok as Length, Err as Refused}
 use Rattle.agreement.specs.Reportable.{Reportable, formed}
 use Rattle.agreement.specs.ReportableLaws.{reportable_few, writable_reportable}
 use Rattle.agreement.specs.ReportLaws.{recorded_length, own, report_right}
@@ -50,10 +48,10 @@ module _ (year quarter : ℕ) (name : List ℕ) (hs : List ReportHour) (r : Repo
         totals = totals_back year quarter name g n hs r.hours few ∙ ap quarter_totals (sym h);
       }
 
-  pub report_accepted : (sets : List Unrounded) → SetsBehind (recorded_hours hs) sets → checked (report year quarter name hs) ≡ Accepted (formed hs)
+  pub report_accepted : (sets : List Unrounded) → SetsBehind (recorded_hours hs) sets → checked (report year quarter name hs) ≡ Ok (formed hs)
   report_accepted sets behind =
       honest_checked (report year quarter name hs) sets (report_honest sets behind)
-      ∙ ap (λ (x : List Hour). Accepted (quarter_totals x)) (hours_back year quarter name r.heading r.named hs r.hours r.monitored)
+      ∙ ap (λ (x : List Hour). Ok (quarter_totals x)) (hours_back year quarter name r.heading r.named hs r.hours r.monitored)
 
 -- of a sheet: the recorded readings lie behind the rounded figures
 abbrev recorded_sets : List SheetHour → List Unrounded
@@ -71,13 +69,13 @@ module _ (year quarter : ℕ) (name sheet : List ℕ) (named : length name ≡ s
   formed_hours = quarter_hours (recorded_hours hours) ∙ recorded_length hours ∙ report_hours_count sheet
 
   -- what was written is the report of the sheet's hours, which can be written
-  written_report : (buffer : List ℕ) (n : ℕ) → answered year quarter name sheet (length buffer) ≡ Length n →
+  written_report : (buffer : List ℕ) (n : ℕ) → answered year quarter name sheet (length buffer) ≡ Ok n →
       (take n (buffered year quarter name sheet buffer) ≡ report year quarter name hours) × Reportable year quarter name hours
   unfolding answered_in buffered_in
   written_report buffer n e = go (refusal_of year quarter name sheet (length buffer)) refl e
     where
       go : (f : ℕ) → refusal_of year quarter name sheet (length buffer) ≡ f →
-          ◌≡◌ {A = Written} (elim f [ zero ↦ Length (report_length (shape_of sheet)) | suc c ↦ Refused (suc c) ]) (Length n) →
+          ◌≡◌ {A = Written} (elim f [ zero ↦ Ok (report_length (shape_of sheet)) | suc c ↦ Err (suc c) ]) (Ok n) →
           (take n (buffered year quarter name sheet buffer) ≡ report year quarter name hours) × Reportable year quarter name hours
       go zero z v =
           let l : report_length (shape_of sheet) ≡ n = cc in
@@ -125,5 +123,5 @@ module _ (year quarter : ℕ) (name sheet : List ℕ) (named : length name ≡ s
       HasHours (take n (buffered year quarter name sheet buffer))
   every_written buffer n e h =
       let told = number_tells year quarter name sheet (length buffer) (omega (arith, e)) in
-      let w = written_report buffer n (told ∙ ap Length (ap written_number (sym told) ∙ e)) in
+      let w = written_report buffer n (told ∙ ap Ok (ap written_number (sym told) ∙ e)) in
       subst HasHours (sym w.0) (report_has w.1)

@@ -1,6 +1,6 @@
 -- A report of two operating hours in a leap year's first quarter, 29 February 05 and 31 March 23: what the writer gives is accepted, and what
 -- is damaged is refused at its own place. And the worked hour at a large station.
-use Rattle.std.specs.Prelude.{◌≡◌, refl, true, List, [], ◌∷◌, ℕ, ◌+◌, ◌*◌, ◌^◌, replicate}
+use Rattle.std.specs.Prelude.{◌≡◌, refl, true, List, [], ◌∷◌, ℕ, ◌+◌, ◌*◌, ◌^◌, replicate, Ok}
 use Rattle.exact.specs.Logic.{ranked}
 use Rattle.exact.specs.Faults.{first_failing}
 use Rattle.exact.specs.Fraction.{over}
@@ -34,7 +34,6 @@ use Rattle.records.specs.Records.{headed, valued, facility_record, totals_record
 use Rattle.writer.proofs.Examples.{stack, sheet_with}
 use Rattle.writer.specs.Refusals.{figures_hold, refusal_in}
 use Rattle.writer.specs.Written.{hour_record, written_records, lined, report, answered, buffered, buffered_in, answered_in}
-use Rattle.std.specs.Prelude.{Ok as Length}
 
 -- hour 1,421 for 0.25 hours: SO2 123.4, NOx 98.7, CO2 11.1, flow 12,345,000, Fc 1,040.0; hour 2,183 for 1.00: 567.8, 43.2, 9.9, 23,456,000, 2,222.2
 abbrev two_sheet : List ℕ
@@ -101,7 +100,7 @@ two_damages =
 pub two_answered : (columns 31 8 two ≡ first_date) × (columns 72 8 two ≡ second_date)
     × (answer_numbers (checked two) ≡ 2 ∷ 11 ∷ 1519 ∷ 13_744 ∷ 113 ∷ 1 ∷ [])
     × (all_named two_damages ≡ true)
-    × (answered 2005 3 stack (sheet_with 600_000) 393 ≡ Length 393)
+    × (answered 2005 3 stack (sheet_with 600_000) 393 ≡ Ok 393)
     × (answer_numbers (checked large) ≡ 1 ∷ 62 ∷ 20_520 ∷ 200_000 ∷ 358 ∷ 36 ∷ [])
 unfolding two large all_named put over meets total_of all same columns digits_from whole_of decimals_behind fixed_of field_of number_of digits_of digit_or_blank leading
     whole_written fixed_written written leap_year days_in_month days_in_quarter hours_in_quarter in_quarter days_before hour_of_quarter quarter_hour month_of_day date_of_hour

@@ -1,6 +1,6 @@
 -- Accepted quarters of one year, joined from its first on, are never refused: no quarter's total is over 2,208 × 999,999 tenths, and four such
 -- come to 8,831,991,168; its NOx tons are not over 110,398,786 tenths.
-use Rattle.std.specs.Prelude.{ℕ, suc, ◌+◌, ◌*◌, ◌≤◌, ◌<◌, ◌≡◌, refl, List, [], ◌∷◌, true, ◌||◌, not, eqb, length}
+use Rattle.std.specs.Prelude.{ℕ, suc, ◌+◌, ◌*◌, ◌≤◌, ◌<◌, ◌≡◌, refl, List, [], ◌∷◌, true, ◌||◌, not, eqb, length, Ok}
 use Rattle.std.proofs.Common.{ap, ◌∙◌, arith}
 use borrow.Author.Tests.{eq-eqb, ne_eqb, le-leb}
 use Rattle.calendar.specs.Calendar.{most_hours}
@@ -13,7 +13,6 @@ use Rattle.annual.specs.Joined.{Joined, year_numbers, all_zeros, follows, year_l
 use Rattle.annual.proofs.JoinedLaws.{joined_record}
 use Rattle.annual.specs.Year.{Part, none_of, and_then, joined_from, Consecutive}
 use Rattle.annual.specs.declared.YearToDate.{YearToDate}
-use Rattle.std.specs.Prelude.{Ok as Record}
 
 -- a year's record after k quarters
 record After (year k : ℕ) (y : YearToDate) : Type 0 where
@@ -56,13 +55,13 @@ module _ (year k : ℕ) (y : YearToDate) (a : After year k y) (few : k < 4) (ans
   }
 
 joins : (parts : List Part) (year k : ℕ) (y : YearToDate) → After year k y → Consecutive year (suc k) parts → k + length parts ≤ 4 →
-    (z : YearToDate) × (joined_from y parts ≡ Record z)
+    (z : YearToDate) × (joined_from y parts ≡ Ok z)
 unfolding joined_from
 joins [] year k y a c few = (y, refl)
 joins (p ∷ ps) year k y a c few =
     let m = accepted_most p.file p.answer p.accepted in
     let less : k < 4 = omega arith in
-    let j : joined_of y p.year p.quarter p.answer ≡ Record (with_quarter y year (suc k) p.answer) =
+    let j : joined_of y p.year p.quarter p.answer ≡ Ok (with_quarter y year (suc k) p.answer) =
     rw (c.0.0, c.0.1) (joined_record y year (suc k) p.answer (next_follows year k y a less p.answer m) (next_fits year k y a less p.answer m)) in
     let r = joins ps year (suc k) (with_quarter y year (suc k) p.answer) (next_after year k y a less p.answer m) c.1 (omega arith) in
     (r.0, ap (λ (x : Joined). and_then x (λ z. joined_from z ps)) j ∙ r.1)
@@ -81,5 +80,5 @@ none_after year = record {
 }
 
 pub always_joins : (year : ℕ) (parts : List Part) → Consecutive year 1 parts → length parts ≤ 4 →
-    (y : YearToDate) × (year_numbers (joined_from (none_of year) parts) ≡ year_numbers (Record y))
+    (y : YearToDate) × (year_numbers (joined_from (none_of year) parts) ≡ year_numbers (Ok y))
 always_joins year parts c few = let j = joins parts year 0 (none_of year) (none_after year) c (omega arith) in (j.0, ap year_numbers j.1)

@@ -1,5 +1,5 @@
 -- What a record that a quarter follows is like, and what joining them gives.
-use Rattle.std.specs.Prelude.{ℕ, ◌+◌, ◌*◌, ◌≤◌, ◌≡◌, List, Bool, length, get_or}
+use Rattle.std.specs.Prelude.{ℕ, ◌+◌, ◌*◌, ◌≤◌, ◌≡◌, List, Bool, length, get_or, Ok, Err}
 use Rattle.std.proofs.Math.Path.{refl}
 use Rattle.std.proofs.Common.{ap, arith}
 use Rattle.std.proofs.Math.Bool.{true, false}
@@ -11,25 +11,24 @@ use Rattle.layout.specs.LayoutLaws.{within_true}
 use Rattle.totals.specs.declared.Quarter.{Quarter}
 use Rattle.annual.specs.Joined.{Joined, year_numbers, follows, sums_fit, with_quarter, joined_of}
 use Rattle.annual.specs.declared.YearToDate.{YearToDate}
-use Rattle.std.specs.Prelude.{Ok as Record, Err as Refused}
 
-pub never_record : {A : Type 0} (number : ℕ) (y : YearToDate) → Refused number ≡ Record y → A
+pub never_record : {A : Type 0} (number : ℕ) (y : YearToDate) → Err number ≡ Ok y → A
 never_record number y e = absurd (let z : ◌≡◌ {A = ℕ} 0 1 = cc in omega arith)
 
 record_in : YearToDate → Joined → YearToDate
-record_in y (Record x) = x
-record_in y (Refused number) = y
+record_in y (Ok x) = x
+record_in y (Err number) = y
 
-pub same_record : (x y : YearToDate) → ◌≡◌ {A = Joined} (Record x) (Record y) → x ≡ y
+pub same_record : (x y : YearToDate) → ◌≡◌ {A = Joined} (Ok x) (Ok y) → x ≡ y
 unfolding record_in
 same_record x y e = ap (record_in y) e
 
 -- the numbers that a joining says determine its record
-pub says_record : (j : Joined) (y : YearToDate) → year_numbers j ≡ year_numbers (Record y) → j ≡ Record y
-says_record (Record x) y e =
-    let at : (k : ℕ) → get_or (year_numbers (Record x)) k 0 ≡ get_or (year_numbers (Record y)) k 0 = λ k. ap (λ (l : List ℕ). get_or l k 0) e in
-    λ i. Record (record { year = at 0 i; quarter = at 1 i; hours = at 2 i; so2 = at 3 i; co2 = at 4 i; heat = at 5 i; nox_tons = at 6 i })
-says_record (Refused number) y e = absurd (let l = ap length e in omega arith)
+pub says_record : (j : Joined) (y : YearToDate) → year_numbers j ≡ year_numbers (Ok y) → j ≡ Ok y
+says_record (Ok x) y e =
+    let at : (k : ℕ) → get_or (year_numbers (Ok x)) k 0 ≡ get_or (year_numbers (Ok y)) k 0 = λ k. ap (λ (l : List ℕ). get_or l k 0) e in
+    λ i. Ok (record { year = at 0 i; quarter = at 1 i; hours = at 2 i; so2 = at 3 i; co2 = at 4 i; heat = at 5 i; nox_tons = at 6 i })
+says_record (Err number) y e = absurd (let l = ap length e in omega arith)
 
 -- but for the zeros of a quarter 0, which nothing above needs
 pub record Follows (previous : YearToDate) (year quarter : ℕ) (answer : Quarter) : Type 0 where
@@ -57,20 +56,20 @@ module _ (previous : YearToDate) (year quarter : ℕ) (answer : Quarter) where
       }
 
   pub joined_record : follows previous year quarter answer ≡ true → sums_fit previous answer ≡ true →
-      joined_of previous year quarter answer ≡ Record (with_quarter previous year quarter answer)
+      joined_of previous year quarter answer ≡ Ok (with_quarter previous year quarter answer)
   unfolding joined_of
   joined_record e s = rw (e, joined_of, s)
 
   -- a record comes of a quarter that follows, and is the one with it added
-  pub record_joined : (y : YearToDate) → joined_of previous year quarter answer ≡ Record y →
+  pub record_joined : (y : YearToDate) → joined_of previous year quarter answer ≡ Ok y →
       Follows previous year quarter answer × (with_quarter previous year quarter answer ≡ y)
   unfolding joined_of
   record_joined y e = go (follows previous year quarter answer) (sums_fit previous answer) refl e
     where
       go : (t s : Bool) → follows previous year quarter answer ≡ t →
           ◌≡◌ {A = Joined}
-          (elim t [ false ↦ Refused 41 | true ↦ elim s [ false ↦ Refused 42 | true ↦ Record (with_quarter previous year quarter answer) ] ])
-          (Record y) →
+          (elim t [ false ↦ Err 41 | true ↦ elim s [ false ↦ Err 42 | true ↦ Ok (with_quarter previous year quarter answer) ] ])
+          (Ok y) →
           Follows previous year quarter answer × (with_quarter previous year quarter answer ≡ y)
       go false s f w = never_record 41 y w
       go true false f w = never_record 42 y w

@@ -1,5 +1,5 @@
 -- The promise holds of every year so joined. Year.antt states it.
-use Rattle.std.specs.Prelude.{ℕ, suc, ◌+◌, ◌<◌, ◌≡◌, refl, length}
+use Rattle.std.specs.Prelude.{ℕ, suc, ◌+◌, ◌<◌, ◌≡◌, refl, length, Ok, Err}
 use Rattle.std.proofs.Common.{sym, ap, subst, subst₂, ◌∙◌, mul-one, lit<}
 use mathlib.Core.List.{List, [], ◌∷◌}
 use native.Mathlib.Omega.{arith}
@@ -22,7 +22,6 @@ use Rattle.annual.proofs.JoinedLaws.{says_record, same_record, never_record, rec
 use Rattle.annual.specs.Year.{Part, none_of, and_then, joined_from, Consecutive, Summed, so2, co2, heat, reported_year, allowed_year}
 use Rattle.annual.specs.Year.{BehindAll, exact_year, YearPromise}
 use Rattle.annual.specs.declared.YearToDate.{YearToDate}
-use Rattle.std.specs.Prelude.{Ok as Record, Err as Refused}
 
 -- behind every part stand lists, and behind all of them a list of lists
 parts_behind : (q : Quantity) (ps : List Part) → (ess : List (List (Entry q))) × BehindAll q ps ess
@@ -61,10 +60,10 @@ parts_mass ps =
     (λ p. (promise p.file).mass p.answer p.accepted) ps)
 
 -- a record that comes of two steps comes of the first
-then_record : (j : Joined) (next : YearToDate → Joined) (y : YearToDate) → and_then j next ≡ Record y →
-    (x : YearToDate) × ((j ≡ Record x) × (next x ≡ Record y))
-then_record (Record x) next y e = (x, (refl, e))
-then_record (Refused number) next y e = never_record number y e
+then_record : (j : Joined) (next : YearToDate → Joined) (y : YearToDate) → and_then j next ≡ Ok y →
+    (x : YearToDate) × ((j ≡ Ok x) × (next x ≡ Ok y))
+then_record (Ok x) next y e = (x, (refl, e))
+then_record (Err number) next y e = never_record number y e
 
 -- what joining part after part makes of a record
 record Grown (before : YearToDate) (parts : List Part) (y : YearToDate) : Type 0 where
@@ -77,7 +76,7 @@ record Grown (before : YearToDate) (parts : List Part) (y : YearToDate) : Type 0
   heat : y.heat ≡ before.heat + total_of (λ p. p.answer.heat) parts
   nox_tons : y.nox_tons ≡ before.nox_tons + total_of (λ p. p.answer.nox_tons) parts
 
-grown : (ps : List Part) (before y : YearToDate) → joined_from before ps ≡ Record y → Grown before ps y
+grown : (ps : List Part) (before y : YearToDate) → joined_from before ps ≡ Ok y → Grown before ps y
 unfolding joined_from hours_in total_of
 grown [] before y e =
     let at : (f : YearToDate → ℕ) → f y ≡ f before + 0 = λ f. ap f (sym (same_record before y e)) ∙ omega arith in
@@ -119,7 +118,7 @@ module _ (parts : List Part) (y : YearToDate) (h : y.hours ≡ hours_in parts) w
   year_near a b c Heat heat ess l = rw (c, h) (parts_near Heat (λ r. r.heat) 20 (lit< tt) (part_near Heat) parts ess l)
   year_near a b c Nox s ess l = elim s [ ]
 
-pub year_promise : (year : ℕ) (parts : List Part) (y : YearToDate) → year_numbers (joined_from (none_of year) parts) ≡ year_numbers (Record y) →
+pub year_promise : (year : ℕ) (parts : List Part) (y : YearToDate) → year_numbers (joined_from (none_of year) parts) ≡ year_numbers (Ok y) →
     YearPromise year parts y
 unfolding hours_in
 year_promise year parts y e =

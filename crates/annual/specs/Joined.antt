@@ -1,6 +1,5 @@
 -- What joining a quarter's answer to a year's record gives. It computes.
-use Rattle.std.specs.Prelude.{ℕ, ◌+◌, ◌*◌, List, [], ◌∷◌, Bool, true, false, ◌&&◌, ◌||◌, not, eqb, leb, Result}
-use Rattle.std.specs.Prelude.{Ok as Record, Err as Refused}
+use Rattle.std.specs.Prelude.{ℕ, ◌+◌, ◌*◌, List, [], ◌∷◌, Bool, true, false, ◌&&◌, ◌||◌, not, eqb, leb, Result, Ok, Err}
 use Rattle.calendar.specs.Calendar.{most_hours}
 use Rattle.layout.specs.Values.{within, quarter_digit}
 use Rattle.totals.specs.declared.Quarter.{Quarter}
@@ -12,8 +11,8 @@ Joined = Result YearToDate ℕ
 
 -- what a joining says: the seven numbers of the record, or that of the refusal
 abbrev pub year_numbers : Joined → List ℕ
-year_numbers (Record y) = y.year ∷ y.quarter ∷ y.hours ∷ y.so2 ∷ y.co2 ∷ y.heat ∷ y.nox_tons ∷ []
-year_numbers (Refused number) = number ∷ []
+year_numbers (Ok y) = y.year ∷ y.quarter ∷ y.hours ∷ y.so2 ∷ y.co2 ∷ y.heat ∷ y.nox_tons ∷ []
+year_numbers (Err number) = number ∷ []
 
 -- a record with neither hours nor amounts
 unfoldable pub all_zeros : YearToDate → Bool
@@ -51,6 +50,6 @@ with_quarter previous year quarter answer = record {
 unfoldable pub joined_of : YearToDate → ℕ → ℕ → Quarter → Joined
 joined_of previous year quarter answer =
     elim (follows previous year quarter answer) [
-      | false ↦ Refused 41
-      | true ↦ elim (sums_fit previous answer) [ false ↦ Refused 42 | true ↦ Record (with_quarter previous year quarter answer) ]
+      | false ↦ Err 41
+      | true ↦ elim (sums_fit previous answer) [ false ↦ Err 42 | true ↦ Ok (with_quarter previous year quarter answer) ]
     ]

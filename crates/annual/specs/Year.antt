@@ -2,7 +2,7 @@
 -- their sum, behind it stand unrounded readings, and whichever they are, the exact year lies within the stated bounds; its NOx tons lie
 -- within 1/20 ton a quarter of what the recorded figures come to. YearLaws.antt proves it. The year and quarter handed over with an answer
 -- need not be the file's.
-use Rattle.std.specs.Prelude.{ℕ, suc, ◌≡◌, List, [], ◌∷◌, length}
+use Rattle.std.specs.Prelude.{ℕ, suc, ◌≡◌, List, [], ◌∷◌, length, Ok, Err}
 use Rattle.std.proofs.Common.{lit<}
 use Rattle.exact.specs.Fraction.{Fraction, ◌⊕◌, fraction, whole, sum_of, Near}
 use Rattle.exact.specs.Rounding.{recorded}
@@ -19,7 +19,6 @@ use Rattle.judging.specs.Behind.{LieBehind, exact_amount}
 use Rattle.checker.specs.Checked.{checked, answer_numbers}
 use Rattle.annual.specs.Joined.{Joined, joined_of}
 use Rattle.annual.specs.declared.YearToDate.{YearToDate}
-use Rattle.std.specs.Prelude.{Ok as Record, Err as Refused}
 
 -- an accepted file with its answer, and what quarter it is said to be
 pub record Part : Type 0 where
@@ -35,12 +34,12 @@ none_of year = record { year = year; quarter = 0; hours = 0; so2 = 0; co2 = 0; h
 
 -- what comes next of a record; a refusal stays
 abbrev pub and_then : Joined → (YearToDate → Joined) → Joined
-and_then (Record y) next = next y
-and_then (Refused number) next = Refused number
+and_then (Ok y) next = next y
+and_then (Err number) next = Err number
 
 -- part after part; the first refusal ends it
 unfoldable pub joined_from : YearToDate → List Part → Joined
-joined_from y [] = Record y
+joined_from y [] = Ok y
 joined_from y (p ∷ ps) = and_then (joined_of y p.year p.quarter p.answer) (λ x. joined_from x ps)
 
 -- quarters of one year, one after the other from this one on

@@ -1,5 +1,5 @@
 -- What the writer says of a converted sheet is what it said of the kept one: both have the same hours. So the promise holds.
-use Rattle.std.specs.Prelude.{ℕ, zero, suc, ◌+◌, ◌*◌, ◌/◌, ◌%◌, ◌≤◌, ◌<◌, ◌≡◌, refl, Bool, true, false, ◌&&◌, List, ◌++◌, eqb, length, drop}
+use Rattle.std.specs.Prelude.{ℕ, zero, suc, ◌+◌, ◌*◌, ◌/◌, ◌%◌, ◌≤◌, ◌<◌, ◌≡◌, refl, Bool, true, false, ◌&&◌, List, ◌++◌, eqb, length, drop, Ok, Err}
 use Rattle.std.proofs.Common.{sym, ap₂, ◌∙◌, true≢false, arith}
 use Rattle.std.proofs.Math.Path.{ap}
 use Rattle.std.proofs.Math.Dec.{leb}
@@ -19,7 +19,6 @@ use Rattle.sheet.specs.declared.SheetHour.{SheetHour}
 use Rattle.writer.specs.Recorded.{report_hours}
 use Rattle.writer.specs.Refusals.{figures_fit, refusal_in}
 use Rattle.writer.specs.Written.{Written, answered, answered_in, buffered, buffered_in, report}
-use Rattle.std.specs.Prelude.{Ok as Length, Err as Refused}
 use Rattle.conversion.specs.Conversion.{conversion_refusal, recoded_from}
 use Rattle.conversion.specs.ConversionPromise.{kept_kind, kept_value, OldFlows, ConversionPromise}
 use Rattle.conversion.proofs.ConversionLaws.{recoded_length, other_kept, flow_word, refusal_told}
@@ -46,7 +45,7 @@ number_same : {a b c d a' b' c' d' : Bool} → a ≡ a' → b ≡ b' → c ≡ c
 number_same e f g h = cc
 
 answer_same : {r r' long long' : ℕ} → r ≡ r' → long ≡ long' →
-    ◌≡◌ {A = Written} (elim r [ zero ↦ Length long | suc c ↦ Refused (suc c) ]) (elim r' [ zero ↦ Length long' | suc c ↦ Refused (suc c) ])
+    ◌≡◌ {A = Written} (elim r [ zero ↦ Ok long | suc c ↦ Err (suc c) ]) (elim r' [ zero ↦ Ok long' | suc c ↦ Err (suc c) ])
 answer_same e f = cc
 
 bytes_same : {r r' long long' : ℕ} {file file' : List ℕ} (b : List ℕ) → r ≡ r' → file ≡ file' → long ≡ long' →

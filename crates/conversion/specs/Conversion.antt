@@ -1,6 +1,5 @@
 -- A kept sheet, of the first form, made into one of the present form: what refuses it, and each of its words afterwards.
-use Rattle.std.specs.Prelude.{ℕ, zero, suc, ◌%◌, Bool, true, cond, not, ◌&&◌, ◌||◌, List, [], ◌∷◌, eqb, leb, length, Result}
-use Rattle.std.specs.Prelude.{Ok as Done, Err as Refused}
+use Rattle.std.specs.Prelude.{ℕ, zero, suc, ◌%◌, Bool, true, cond, not, ◌&&◌, ◌||◌, List, [], ◌∷◌, eqb, leb, length, Result, Ok, Err}
 use Rattle.exact.specs.Faults.{◌or_else◌, unless}
 use Rattle.calendar.specs.Calendar.{most_hours}
 use Rattle.layout.specs.Values.{thousands_of, whole_steps, flow_scfh}
@@ -45,8 +44,8 @@ abbrev pub Converted : Type 0
 Converted = Result (Unit {0}) ℕ
 
 unfoldable pub conversion_answer : List ℕ → Converted
-conversion_answer sheet = elim (conversion_refusal sheet) [ zero ↦ Done tt | suc c ↦ Refused (suc c) ]
+conversion_answer sheet = elim (conversion_refusal sheet) [ zero ↦ Ok tt | suc c ↦ Err (suc c) ]
 
 abbrev pub converted_number : Converted → ℕ
-converted_number (Done _) = 0
-converted_number (Refused number) = number
+converted_number (Ok _) = 0
+converted_number (Err number) = number

@@ -1,5 +1,5 @@
 -- Calls of `edr_check`, `edr_write`, `edr_year_to_date` and `edr_convert`: what is returned, and what is left in the lent slice. Computed, in tables.
-use Rattle.std.specs.Prelude.{◌≡◌, refl, List, [], ◌∷◌, map, ℕ, replicate, take}
+use Rattle.std.specs.Prelude.{◌≡◌, refl, List, [], ◌∷◌, map, ℕ, replicate, take, Ok}
 use Rattle.layout.specs.Values.{within}
 use Rattle.totals.specs.declared.Quarter.{Quarter}
 use Rattle.lines.specs.Lines.{last}
@@ -7,7 +7,6 @@ use Rattle.reading.specs.Reading.{read_of}
 use Rattle.checker.specs.Checked.{refused_at, after_reading, checked}
 use Rattle.checker.proofs.Examples.{worked_hour, answers}
 use Rattle.checker.proofs.PromiseLaws.{accepts}
-use Rattle.std.specs.Prelude.{Ok as Accepted}
 use Rattle.annual.specs.Joined.{all_zeros, follows, sums_fit, joined_of}
 use Rattle.writer.proofs.Examples.{stack, worked_sheet, worked, worked_written}
 use Rattle.conversion.specs.Conversion.{each_word, conversion_refusal, recoded_from, converted, conversion_answer, converted_number}
@@ -21,7 +20,7 @@ lent = 91 ∷ 92 ∷ 93 ∷ 94 ∷ 95 ∷ 96 ∷ 97 ∷ 98 ∷ []
 abbrev worked_answer : Quarter
 worked_answer = record { hours = 1; so2 = 2; co2 = 684; heat = 6667; nox = 358; nox_tons = 1 }
 
-worked_accepted : checked worked_hour ≡ Accepted worked_answer
+worked_accepted : checked worked_hour ≡ Ok worked_answer
 worked_accepted = accepts (checked worked_hour) worked_answer answers.0
 
 empty_refused : checked [] ≡ refused_at 1 0

@@ -1,4 +1,5 @@
 -- The answer's numbers at the front of a lent slice.
+use Rattle.std.specs.Prelude.{Ok, Err}
 use Prim.Native.Nat.{ℕ, ◌≤◌, ◌<◌}
 use mathlib.Core.Path.{◌≡◌, refl}
 use mathlib.Core.List.{List, [], ◌∷◌, ◌++◌}
@@ -10,7 +11,6 @@ use Rattle.totals.specs.declared.Quarter.{Quarter}
 use Rattle.refusals.specs.Refusals.{PaperRefusal}
 use Rattle.judging.specs.Judged.{acceptance}
 use Rattle.checker.specs.Checked.{refusal, checked}
-use Rattle.std.specs.Prelude.{Ok as Accepted, Err as Refused}
 use Rattle.writer.specs.Written.{written_number, answered, buffered}
 use Rattle.edr_c.specs.Boundary.{filled, answer_length, check_code, check_filled, write_code, write_filled}
 
@@ -23,14 +23,14 @@ module _ (file buffer : List ℕ) where
   unfolding check_code check_filled
   short h = (rw (lt-ltb (length buffer) answer_length h, check_code), rw (lt-ltb (length buffer) answer_length h, check_filled))
 
-  pub accepted : (r : Quarter) → checked file ≡ Accepted r → answer_length ≤ length buffer → (front : List ℕ) → front ≡ acceptance r →
+  pub accepted : (r : Quarter) → checked file ≡ Ok r → answer_length ≤ length buffer → (front : List ℕ) → front ≡ acceptance r →
       (1 ≡ check_code file buffer) × (front ++ drop answer_length buffer ≡ check_filled file buffer)
   unfolding check_code check_filled
   accepted r e h front f =
       let few = le-ltb (length buffer) answer_length h in
       (rw (few, check_code, e), rw (few, check_filled, e, f))
 
-  pub refused : (r : PaperRefusal) → checked file ≡ Refused r → answer_length ≤ length buffer → (front : List ℕ) → front ≡ refusal r.number r.line →
+  pub refused : (r : PaperRefusal) → checked file ≡ Err r → answer_length ≤ length buffer → (front : List ℕ) → front ≡ refusal r.number r.line →
       (0 ≡ check_code file buffer) × (front ++ drop 2 buffer ≡ check_filled file buffer)
   unfolding check_code check_filled
   refused r e h front f =

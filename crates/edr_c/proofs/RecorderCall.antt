@@ -1,4 +1,5 @@
 -- An hour's words, or the refusal, in a call of the right form.
+use Rattle.std.specs.Prelude.{Ok, Err}
 use Prim.Native.Nat.{ℕ, ◌≤◌, ◌<◌}
 use mathlib.Core.Path.{◌≡◌, refl, sym, ◌∙◌}
 use mathlib.Core.List.{List, [], ◌∷◌, ◌++◌}
@@ -14,7 +15,6 @@ use Rattle.recorder.specs.Recording.{recorder_numbers, recorded_of}
 use Rattle.recorder.specs.declared.RecorderReading.{RecorderReading}
 use Rattle.recorder.specs.declared.RecorderHour.{RecorderHour}
 use Rattle.recorder.specs.declared.HourWords.{HourWords}
-use Rattle.std.specs.Prelude.{Ok as Words, Err as Refused}
 use Rattle.edr_c.specs.RecorderCall.{reading_count, words_length, is_state, hour_in, wrong_form, recorder_code, recorder_filled}
 use Rattle.edr_c.proofs.Filling.{set_front}
 
@@ -81,13 +81,13 @@ module _ (states : List ℕ) (readings : List Float) (buffer : List ℕ) where
     right : known_states states ≡ true → wrong_form states readings buffer ≡ false
     right e = rw (long, sym tried ∙ e)
 
-    pub words : known_states states ≡ true → (w : HourWords) → recorded_of (hour_in states readings) ≡ Words w →
-        (front : List ℕ) → front ≡ recorder_numbers (Words w) →
+    pub words : known_states states ≡ true → (w : HourWords) → recorded_of (hour_in states readings) ≡ Ok w →
+        (front : List ℕ) → front ≡ recorder_numbers (Ok w) →
         (1 ≡ recorder_code states readings buffer) × (front ++ drop words_length buffer ≡ recorder_filled states readings buffer)
     unfolding recorder_code recorder_filled
     words k w e front f = (rw (right k, recorder_code, e), rw (right k, recorder_filled, e, f))
 
-    pub refused : known_states states ≡ true → (number : ℕ) → recorded_of (hour_in states readings) ≡ Refused number →
+    pub refused : known_states states ≡ true → (number : ℕ) → recorded_of (hour_in states readings) ≡ Err number →
         (0 ≡ recorder_code states readings buffer) × (set buffer 0 number ≡ recorder_filled states readings buffer)
     unfolding recorder_code recorder_filled
     refused k number e = (rw (right k, recorder_code, e), rw (right k, recorder_filled, e) (set_front number buffer (omega arith)))

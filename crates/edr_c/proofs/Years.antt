@@ -1,4 +1,5 @@
 -- A year's record, or the refusal, in long enough slices.
+use Rattle.std.specs.Prelude.{Ok, Err}
 use Prim.Native.Nat.{ℕ, ◌≤◌, ◌<◌}
 use mathlib.Core.Path.{◌≡◌}
 use mathlib.Core.List.{List, ◌++◌}
@@ -10,7 +11,6 @@ use lib.ListN.{length, drop, set}
 use borrow.Author.Tests.{lt-ltb, le-ltb}
 use Rattle.annual.specs.Joined.{joined_of, year_numbers}
 use Rattle.annual.specs.declared.YearToDate.{YearToDate}
-use Rattle.std.specs.Prelude.{Ok as Record, Err as Refused}
 use Rattle.edr_c.specs.Boundary.{answer_length, year_length, quarter_in, year_in, too_short, year_code, year_filled}
 use Rattle.edr_c.proofs.Filling.{set_front}
 
@@ -37,13 +37,13 @@ module _ (previous answer : List ℕ) (year quarter : ℕ) (buffer : List ℕ) w
     long : too_short previous answer buffer ≡ false
     long = rw (le-ltb (length previous) year_length p, le-ltb (length answer) answer_length a, le-ltb (length buffer) year_length b)
 
-    pub joined : (y : YearToDate) → joined_of (year_in previous) year quarter (quarter_in answer) ≡ Record y →
-        (front : List ℕ) → front ≡ year_numbers (Record y) →
+    pub joined : (y : YearToDate) → joined_of (year_in previous) year quarter (quarter_in answer) ≡ Ok y →
+        (front : List ℕ) → front ≡ year_numbers (Ok y) →
         (1 ≡ year_code previous answer year quarter buffer) × (front ++ drop year_length buffer ≡ year_filled previous answer year quarter buffer)
     unfolding year_code year_filled
     joined y e front f = (rw (long, year_code, e), rw (long, year_filled, e, f))
 
-    pub refused : (number : ℕ) → joined_of (year_in previous) year quarter (quarter_in answer) ≡ Refused number →
+    pub refused : (number : ℕ) → joined_of (year_in previous) year quarter (quarter_in answer) ≡ Err number →
         (0 ≡ year_code previous answer year quarter buffer) × (set buffer 0 number ≡ year_filled previous answer year quarter buffer)
     unfolding year_code year_filled
     refused number e = (rw (long, year_code, e), rw (long, year_filled, e) (set_front number buffer (omega arith)))

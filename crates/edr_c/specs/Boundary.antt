@@ -1,18 +1,16 @@
 -- What the functions of the boundary return and leave in a lent slice.
-use Rattle.std.specs.Prelude.{ℕ, List, ◌++◌, Bool, true, false, ◌||◌, eqb, ltb, length, get_or, drop}
+use Rattle.std.specs.Prelude.{ℕ, List, ◌++◌, Bool, true, false, ◌||◌, eqb, ltb, length, get_or, drop, Ok, Err}
 use Rattle.layout.specs.Layout.{stack_width}
 use Rattle.checker.specs.Checked.{answer_numbers, checked}
 use Rattle.checker.specs.Checked.{Answer}
-use Rattle.std.specs.Prelude.{Ok as Accepted, Err as Refused}
 use Rattle.totals.specs.declared.Quarter.{Quarter}
 use Rattle.annual.specs.Joined.{Joined, joined_of, year_numbers}
 use Rattle.annual.specs.declared.YearToDate.{YearToDate}
-use Rattle.std.specs.Prelude.{Ok as Record, Err as NotJoined}
 use Rattle.writer.specs.Written.{written_number, answered, buffered}
 
 abbrev pub answer_code : Answer → ℕ
-answer_code (Accepted r) = 1
-answer_code (Refused r) = 0
+answer_code (Ok r) = 1
+answer_code (Err r) = 0
 
 -- an answer's numbers, and behind them what was there
 abbrev pub filled : List ℕ → List ℕ → List ℕ
@@ -57,8 +55,8 @@ year_in l = record {
 }
 
 abbrev pub joined_code : Joined → ℕ
-joined_code (Record y) = 1
-joined_code (NotJoined number) = 0
+joined_code (Ok y) = 1
+joined_code (Err number) = 0
 
 -- whether one of the lent slices is too short for any answer
 abbrev pub too_short : (previous answer buffer : List ℕ) → Bool

@@ -1,12 +1,11 @@
 -- What `edr_recorder_words` returns and leaves in the answer.
-use Rattle.std.specs.Prelude.{ℕ, zero, suc, List, Bool, true, false, not, ◌||◌, eqb, leb, ltb, length, get_or, Float}
+use Rattle.std.specs.Prelude.{ℕ, zero, suc, List, Bool, true, false, not, ◌||◌, eqb, leb, ltb, length, get_or, Float, Ok, Err}
 use Rattle.std.specs.Float.{nan}
 use Rattle.columns.specs.Bytes.{all}
 use Rattle.recorder.specs.Recording.{Recorded, recorder_numbers, recorded_of}
 use Rattle.recorder.specs.declared.RecorderReading.{RecorderReading}
 use Rattle.recorder.specs.declared.RecorderReading.TheVariants.{Measured, Substituted, Absent}
 use Rattle.recorder.specs.declared.RecorderHour.{RecorderHour}
-use Rattle.std.specs.Prelude.{Ok as Words, Err as Refused}
 use Rattle.edr_c.specs.Boundary.{filled}
 
 -- an hour has four readings; an answer has four words and the count of substituted readings
@@ -41,8 +40,8 @@ wrong_form states readings buffer =
     not (eqb (length states) reading_count) || not (eqb (length readings) reading_count) || ltb (length buffer) words_length || not (all is_state states)
 
 abbrev pub recorded_code : Recorded → ℕ
-recorded_code (Words w) = 1
-recorded_code (Refused number) = 0
+recorded_code (Ok w) = 1
+recorded_code (Err number) = 0
 
 unfoldable pub recorder_code : List ℕ → List Float → List ℕ → ℕ
 recorder_code states readings buffer =

@@ -9,7 +9,6 @@ ghost use Rattle.conversion.specs.Conversion.{converted, conversion_answer, conv
 ghost use Rattle.edr_c.specs.RecorderCall.{reading_in, recorder_code, recorder_filled};
 
 use annual::YearToDate;
-use checker::Answer;
 use recorder::{RecorderHour, RecorderReading};
 use refusals::WriteRefusal;
 use totals::Quarter;
@@ -43,7 +42,7 @@ pub extern "C" fn edr_check(file: &[u8], answer: &mut [u64]) -> u64
         return 2;
     }
     match checker::check(file) {
-        Answer::Accepted(quarter) => {
+        Ok(quarter) => {
             answer[..ANSWER_LENGTH].copy_from_slice(&[
                 quarter.hours,
                 quarter.so2,
@@ -54,8 +53,8 @@ pub extern "C" fn edr_check(file: &[u8], answer: &mut [u64]) -> u64
             ]);
             1
         }
-        Answer::Refused(refusal) => {
-            answer[..2].copy_from_slice(&[refusal.number, refusal.line as u64]);
+        Err(refusal) => {
+            answer[..2].copy_from_slice(&[refusal.fault.number(), refusal.line as u64]);
             0
         }
     }

@@ -1,4 +1,5 @@
 -- A buffer and a sheet are filled place by place, a sum is taken byte by byte, and a report that was written fits its buffer.
+use Rattle.std.specs.Prelude.{Ok, Err}
 use Prim.Native.Nat.{ℕ, zero, suc, ◌+◌, ◌*◌, ◌%◌, ◌≤◌, ◌<◌}
 use mathlib.Core.Path.{◌≡◌, refl, sym, ap, ◌∙◌}
 use mathlib.Core.List.{List, [], ◌∷◌, ◌++◌}
@@ -11,7 +12,6 @@ use Rattle.writer.specs.Refusals.{refusal_of}
 use Rattle.writer.proofs.TableLaws.{not_refused}
 use Rattle.sheet.specs.Sheet.{shape_of}
 use Rattle.writer.specs.Written.{Written, answered, answered_in}
-use Rattle.std.specs.Prelude.{Ok as Length, Err as Refused}
 use Rattle.outside.specs.Numbers.{number_at, words_of, adler_of}
 use Rattle.outside.specs.Cases.{last_of, edited_by}
 
@@ -48,13 +48,13 @@ unfolding answered_in
 answer_fits year quarter name sheet room written e = rw e (go (refusal_of year quarter name sheet room) refl)
   where
     go : (k : ℕ) → refusal_of year quarter name sheet room ≡ k
-        → last_of (elim k [ zero ↦ Length (report_length (shape_of sheet)) | suc c ↦ Refused (suc c) ]) 0 ≤ room
+        → last_of (elim k [ zero ↦ Ok (report_length (shape_of sheet)) | suc c ↦ Err (suc c) ]) 0 ≤ room
     go zero e = (not_refused year quarter name sheet room e).1
     go (suc c) e = omega arith
 
 pub last_fits : (written : Written) (last room long : ℕ) → last_of written 0 ≤ room → room ≤ long → last ≤ long → last_of written last ≤ long
-last_fits (Length size) last room long h k m = omega arith
-last_fits (Refused number) last room long h k m = m
+last_fits (Ok size) last room long h k m = omega arith
+last_fits (Err number) last room long h k m = m
 
 pub zeros : (n : ℕ) → n ≡ length {A = ℕ} (replicate n 0)
 zeros n = sym (length-replicate {0} {A = ℕ} n 0)

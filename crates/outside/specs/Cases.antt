@@ -1,14 +1,13 @@
 -- What a case leaves: how many bytes of the data it takes, and the length of the last report written.
-use Rattle.std.specs.Prelude.{ℕ, zero, suc, ◌+◌, ◌*◌, ◌≤◌, ◌<◌, List, length, get_or, set}
+use Rattle.std.specs.Prelude.{ℕ, zero, suc, ◌+◌, ◌*◌, ◌≤◌, ◌<◌, List, length, get_or, set, Ok, Err}
 use Rattle.outside.specs.Numbers.{number_at}
 use Rattle.outside.specs.declared.Step.{Step}
-use Rattle.std.specs.Prelude.{Ok as Length, Err as Refused}
 use Rattle.writer.specs.Written.{Written}
 
 -- the length of the last report written, where it was `last` before
 abbrev pub last_of : Written → ℕ → ℕ
-last_of (Length size) last = size
-last_of (Refused number) last = last
+last_of (Ok size) last = size
+last_of (Err number) last = last
 
 -- so many edits, each a place in the report and the byte that is to stand there
 unfoldable pub edited_by : ℕ → List ℕ → List ℕ → List ℕ

@@ -1,6 +1,5 @@
 -- The promise of an hour's words, channel by channel.
-use Rattle.std.specs.Prelude.{ℕ, ◌+◌, ◌*◌, ◌≤◌, ◌≡◌, List, [], ◌∷◌, length, get_or}
-use Rattle.std.specs.Prelude.{Ok as Words, Err as Refused}
+use Rattle.std.specs.Prelude.{ℕ, ◌+◌, ◌*◌, ◌≤◌, ◌≡◌, List, [], ◌∷◌, length, get_or, Ok, Err}
 use Rattle.std.proofs.Math.Path.{refl}
 use Rattle.std.proofs.Common.{sym, ap, ◌∙◌, arith, lit≤}
 use Rattle.exact.specs.Rounding.{Records}
@@ -75,7 +74,7 @@ unfolding total_of
 substituted_count h [] = refl
 substituted_count h (c ∷ cs) = omega (arith, one_more_lem (reading_of c h) c (substituted_among h cs), substituted_count h cs)
 
-refusal_right : (h : RecorderHour) (n : ℕ) → recorded_of h ≡ Refused n → HourRefuses h n
+refusal_right : (h : RecorderHour) (n : ℕ) → recorded_of h ≡ Err n → HourRefuses h n
 refusal_right h n e =
     let r = number_refused h n e in
     let f = r.0 in
@@ -94,23 +93,23 @@ shown_number c reading _ (absent f) = (lit≤ tt, lit≤ tt)
 shown_number c reading _ (unusable x r u) = (lit≤ tt, lit≤ tt)
 shown_number c reading _ (outside x r u o) = (lit≤ tt, lit≤ tt)
 
-pub recorder_numbers_lem : (h : RecorderHour) (n : ℕ) → recorded_of h ≡ Refused n → (44 ≤ n) × (n ≤ 46)
+pub recorder_numbers_lem : (h : RecorderHour) (n : ℕ) → recorded_of h ≡ Err n → (44 ≤ n) × (n ≤ 46)
 recorder_numbers_lem h n e = let r = refusal_right h n e in shown_number r.channel (reading_of r.channel h) n r.shows
 
 -- the numbers that an answer says determine it
-says_words : (r : Recorded) (w : HourWords) → recorder_numbers r ≡ recorder_numbers (Words w) → r ≡ Words w
-says_words (Words v) w e =
-    let at : (k : ℕ) → get_or (recorder_numbers (Words v)) k 0 ≡ get_or (recorder_numbers (Words w)) k 0 = λ k. ap (λ (l : List ℕ). get_or l k 0) e in
-    λ i. Words (record { so2 = at 0 i; nox = at 1 i; co2 = at 2 i; flow = at 3 i; substituted = at 4 i })
-says_words (Refused n) w e = absurd (let l = ap length e in omega arith)
+says_words : (r : Recorded) (w : HourWords) → recorder_numbers r ≡ recorder_numbers (Ok w) → r ≡ Ok w
+says_words (Ok v) w e =
+    let at : (k : ℕ) → get_or (recorder_numbers (Ok v)) k 0 ≡ get_or (recorder_numbers (Ok w)) k 0 = λ k. ap (λ (l : List ℕ). get_or l k 0) e in
+    λ i. Ok (record { so2 = at 0 i; nox = at 1 i; co2 = at 2 i; flow = at 3 i; substituted = at 4 i })
+says_words (Err n) w e = absurd (let l = ap length e in omega arith)
 
-says_refused : (r : Recorded) (number : ℕ) → recorder_numbers r ≡ recorder_numbers (Refused number) → r ≡ Refused number
-says_refused (Words v) number e = absurd (let l = ap length e in omega arith)
-says_refused (Refused n) number e = let z : n ≡ number = ap (λ (l : List ℕ). get_or l 0 0) e in ap Refused z
+says_refused : (r : Recorded) (number : ℕ) → recorder_numbers r ≡ recorder_numbers (Err number) → r ≡ Err number
+says_refused (Ok v) number e = absurd (let l = ap length e in omega arith)
+says_refused (Err n) number e = let z : n ≡ number = ap (λ (l : List ℕ). get_or l 0 0) e in ap Err z
 
 pub hour_promise : (h : RecorderHour) → RecorderPromise h (recorder_numbers (recorded_of h))
 hour_promise h =
-    let words : (w : HourWords) → recorder_numbers (recorded_of h) ≡ recorder_numbers (Words w) → recorded_of h ≡ Words w = says_words (recorded_of h) in
+    let words : (w : HourWords) → recorder_numbers (recorded_of h) ≡ recorder_numbers (Ok w) → recorded_of h ≡ Ok w = says_words (recorded_of h) in
     record {
       given = λ w e c. reading_good c (reading_of c h) ((words_given h w (words w e)).none c);
       rounds = λ w e sheet k s. rounds_there h w (words_given h w (words w e)) sheet k s;

@@ -2,8 +2,7 @@
 use Prim.Native.Nat.{ℕ, zero, suc}
 use Rattle.std.proofs.Math.Path.{◌≡◌, refl}
 use Rattle.std.proofs.Common.{sym, ap, ◌∙◌, inl, inr, ⊎_elim, arith}
-use Rattle.std.specs.Prelude.{true, false, ◌⊎◌, List, [], ◌∷◌, ◌++◌, Float}
-use Rattle.std.specs.Prelude.{Ok as Words, Err as Refused}
+use Rattle.std.specs.Prelude.{true, false, ◌⊎◌, List, [], ◌∷◌, ◌++◌, Float, Ok, Err}
 use Rattle.exact.specs.Faults.{◌or_else◌, or_first, or_zero}
 use Rattle.exact.specs.Logic.{All}
 use Rattle.layout.specs.Values.{in_range}
@@ -36,7 +35,7 @@ split_first zero b n e = inr (refl, e)
 split_first (suc a) b n e = inl e
 
 module _ (h : RecorderHour) where
-  refused_by : (n : ℕ) → first_fault h channels ≡ n → (n ≡ 0 → ⊥) → Refused n ≡ recorded_of h
+  refused_by : (n : ℕ) → first_fault h channels ≡ n → (n ≡ 0 → ⊥) → Err n ≡ recorded_of h
   unfolding recorded_of
   refused_by zero e z = absurd (z refl)
   refused_by (suc n) e z = rw (e, recorded_of)
@@ -48,20 +47,20 @@ module _ (h : RecorderHour) where
     some : n ≡ 0 → ⊥
     some z = omega (arith, recorder_positive e)
 
-    pub so2_refuses : n ≡ fault_of So2 h.so2 → Refused n ≡ recorded_of h
+    pub so2_refuses : n ≡ fault_of So2 h.so2 → Err n ≡ recorded_of h
     so2_refuses e = refused_by n (rw (← e) (or_first n _ some)) some
 
-    pub nox_refuses : fault_of So2 h.so2 ≡ 0 → n ≡ fault_of Nox h.nox → Refused n ≡ recorded_of h
+    pub nox_refuses : fault_of So2 h.so2 ≡ 0 → n ≡ fault_of Nox h.nox → Err n ≡ recorded_of h
     nox_refuses a e = refused_by n (rw (a, ← e) (or_first n _ some)) some
 
-    pub co2_refuses : fault_of So2 h.so2 ≡ 0 → fault_of Nox h.nox ≡ 0 → n ≡ fault_of Co2 h.co2 → Refused n ≡ recorded_of h
+    pub co2_refuses : fault_of So2 h.so2 ≡ 0 → fault_of Nox h.nox ≡ 0 → n ≡ fault_of Co2 h.co2 → Err n ≡ recorded_of h
     co2_refuses a b e = refused_by n (rw (a, b, ← e) (or_first n _ some)) some
 
-    pub flow_refuses : fault_of So2 h.so2 ≡ 0 → fault_of Nox h.nox ≡ 0 → fault_of Co2 h.co2 ≡ 0 → n ≡ fault_of Flow h.flow → Refused n ≡ recorded_of h
+    pub flow_refuses : fault_of So2 h.so2 ≡ 0 → fault_of Nox h.nox ≡ 0 → fault_of Co2 h.co2 ≡ 0 → n ≡ fault_of Flow h.flow → Err n ≡ recorded_of h
     flow_refuses a b d e = refused_by n (rw (a, b, d, ← e) (or_first n 0 some)) some
 
   all_taken : fault_of So2 h.so2 ≡ 0 → fault_of Nox h.nox ≡ 0 → fault_of Co2 h.co2 ≡ 0 → fault_of Flow h.flow ≡ 0 →
-      Words (words_for h) ≡ recorded_of h
+      Ok (words_for h) ≡ recorded_of h
   unfolding recorded_of
   all_taken a b d e = let z : first_fault h channels ≡ 0 = rw (a, b, d, e) in rw (z, recorded_of)
 
@@ -70,7 +69,7 @@ module _ (h : RecorderHour) where
       (fault_of So2 h.so2 ≡ 0) × (so2 ≡ word_for So2 h.so2) → (fault_of Nox h.nox ≡ 0) × (nox ≡ word_for Nox h.nox) →
       (fault_of Co2 h.co2 ≡ 0) × (co2 ≡ word_for Co2 h.co2) → (fault_of Flow h.flow ≡ 0) × (flow ≡ word_for Flow h.flow) →
       substituted ≡ (words_for h).substituted →
-      Words (record { so2 = so2; nox = nox; co2 = co2; flow = flow; substituted = substituted }) ≡ recorded_of h
+      Ok (record { so2 = so2; nox = nox; co2 = co2; flow = flow; substituted = substituted }) ≡ recorded_of h
   words_made a b d e n = rw (a.1, b.1, d.1, e.1, n) (all_taken a.0 b.0 d.0 e.0)
 
   -- what an answer tells of the faults
@@ -89,12 +88,12 @@ module _ (h : RecorderHour) where
     pub none : (c : Channel) → fault_of c (reading_of c h) ≡ 0
     pub words : words_for h ≡ w
 
-  pub words_given : (w : HourWords) → recorded_of h ≡ Words w → Given w
+  pub words_given : (w : HourWords) → recorded_of h ≡ Ok w → Given w
   unfolding recorded_of
   words_given w e = go (first_fault h channels) refl e
     where
       go : (n : ℕ) → first_fault h channels ≡ n →
-          ◌≡◌ {A = Recorded} (elim n [ zero ↦ Words (words_for h) | suc number ↦ Refused (suc number) ]) (Words w) → Given w
+          ◌≡◌ {A = Recorded} (elim n [ zero ↦ Ok (words_for h) | suc number ↦ Err (suc number) ]) (Ok w) → Given w
       go zero f g = record { none = none_of_lem (none_there channels f); words = cc }
       go (suc n) f g = absurd (let z : ◌≡◌ {A = ℕ} 0 1 = cc in omega arith)
 
@@ -126,12 +125,12 @@ module _ (h : RecorderHour) where
       (λ f. behind c cs n f.0 (faulty cs n f.1 z))
       (split_first (fault_of c (reading_of c h)) (first_fault h cs) n e)
 
-  pub number_refused : (n : ℕ) → recorded_of h ≡ Refused n → Faulty channels n × (n ≡ 0 → ⊥)
+  pub number_refused : (n : ℕ) → recorded_of h ≡ Err n → Faulty channels n × (n ≡ 0 → ⊥)
   unfolding recorded_of
   number_refused n e = go (first_fault h channels) refl e
     where
       go : (m : ℕ) → first_fault h channels ≡ m →
-          ◌≡◌ {A = Recorded} (elim m [ zero ↦ Words (words_for h) | suc number ↦ Refused (suc number) ]) (Refused n) →
+          ◌≡◌ {A = Recorded} (elim m [ zero ↦ Ok (words_for h) | suc number ↦ Err (suc number) ]) (Err n) →
           Faulty channels n × (n ≡ 0 → ⊥)
       go zero f g = absurd (let z : ◌≡◌ {A = ℕ} 0 1 = cc in omega arith)
       go (suc m) f g =

@@ -1,7 +1,6 @@
 -- What is promised of an hour's words: every reading is good; each float is an unrounded reading that records as its word; no word is
 -- refused in a sheet; the substituted readings are counted; and a refusal names the first reading that is not good.
-use Rattle.std.specs.Prelude.{ℕ, ◌+◌, ◌*◌, ◌≡◌, true, false, List, [], ◌∷◌, ◌++◌, length, get_or, Float}
-use Rattle.std.specs.Prelude.{Ok as Words, Err as Refused}
+use Rattle.std.specs.Prelude.{ℕ, ◌+◌, ◌*◌, ◌≡◌, true, false, List, [], ◌∷◌, ◌++◌, length, get_or, Float, Ok, Err}
 use Rattle.exact.specs.Logic.{All}
 use Rattle.exact.specs.Fraction.{Fraction, whole}
 use Rattle.exact.specs.Rounding.{Records}
@@ -101,9 +100,9 @@ pub record HourRefuses (h : RecorderHour) (number : ℕ) : Type 0 where
 
 -- what the promise is about: the numbers that an answer says
 pub record RecorderPromise (h : RecorderHour) (said : List ℕ) : Type 0 where
-  pub given : (w : HourWords) → said ≡ recorder_numbers (Words w) → (c : Channel) → Good c (reading_of c h)
-  pub rounds : (w : HourWords) → said ≡ recorder_numbers (Words w) → (sheet : List ℕ) (k : ℕ) → StandIn w sheet k →
+  pub given : (w : HourWords) → said ≡ recorder_numbers (Ok w) → (c : Channel) → Good c (reading_of c h)
+  pub rounds : (w : HourWords) → said ≡ recorder_numbers (Ok w) → (sheet : List ℕ) (k : ℕ) → StandIn w sheet k →
       (hour : Hour) → HourOf sheet k hour → (q : Quantity) → RoundsTo q hour (entry_of q (set_of (unrounded_of h)))
-  pub taken : (w : HourWords) → said ≡ recorder_numbers (Words w) → (sheet : List ℕ) (k : ℕ) → StandIn w sheet k → TakenIn sheet k
-  pub counted : (w : HourWords) → said ≡ recorder_numbers (Words w) → w.substituted ≡ length (substituted_among h channels)
-  pub refused : (number : ℕ) → said ≡ recorder_numbers (Refused number) → HourRefuses h number
+  pub taken : (w : HourWords) → said ≡ recorder_numbers (Ok w) → (sheet : List ℕ) (k : ℕ) → StandIn w sheet k → TakenIn sheet k
+  pub counted : (w : HourWords) → said ≡ recorder_numbers (Ok w) → w.substituted ≡ length (substituted_among h channels)
+  pub refused : (number : ℕ) → said ≡ recorder_numbers (Err number) → HourRefuses h number

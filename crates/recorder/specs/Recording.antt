@@ -1,6 +1,5 @@
 -- An hour as a recorder hands it over: which words it comes to, or which refusal. What is said of a float is said of its value.
-use Rattle.std.specs.Prelude.{ℕ, zero, suc, ◌*◌, Bool, false, not, ◌||◌, List, [], ◌∷◌, eqb, Float, Result}
-use Rattle.std.specs.Prelude.{Ok as Words, Err as Refused}
+use Rattle.std.specs.Prelude.{ℕ, zero, suc, ◌*◌, Bool, false, not, ◌||◌, List, [], ◌∷◌, eqb, Float, Result, Ok, Err}
 use Rattle.std.specs.Float.{nan, inf, fin}
 use Rattle.std.specs.Float.Ieee.Positive.{num, den, den_pos}
 use Rattle.exact.specs.Faults.{◌or_else◌, unless}
@@ -107,9 +106,9 @@ abbrev pub Recorded : Type 0
 Recorded = Result HourWords ℕ
 
 unfoldable pub recorded_of : RecorderHour → Recorded
-recorded_of h = elim (first_fault h channels) [ zero ↦ Words (words_for h) | suc number ↦ Refused (suc number) ]
+recorded_of h = elim (first_fault h channels) [ zero ↦ Ok (words_for h) | suc number ↦ Err (suc number) ]
 
 -- what an answer says: the four words and the count, or the refusal's number
 abbrev pub recorder_numbers : Recorded → List ℕ
-recorder_numbers (Words w) = w.so2 ∷ w.nox ∷ w.co2 ∷ w.flow ∷ w.substituted ∷ []
-recorder_numbers (Refused number) = number ∷ []
+recorder_numbers (Ok w) = w.so2 ∷ w.nox ∷ w.co2 ∷ w.flow ∷ w.substituted ∷ []
+recorder_numbers (Err number) = number ∷ []

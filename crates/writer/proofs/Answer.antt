@@ -1,4 +1,5 @@
 -- The two answers of the writer: a refusal, and the report's length.
+use Rattle.std.specs.Prelude.{Ok, Err}
 use Prim.Native.Nat.{ℕ, zero, suc, ◌+◌, ◌-◌, ◌≤◌}
 use mathlib.Core.Path.{◌≡◌, refl, sym}
 use mathlib.Core.List.{List}
@@ -13,22 +14,21 @@ use Rattle.writer.specs.Written.{report, answered, buffered, buffered_in, answer
 use Rattle.writer.specs.Writable.{Fits}
 use Rattle.writer.proofs.TableLaws.{not_refused}
 use Rattle.writer.proofs.ReportLaws.{report_shape, report_bytes}
-use Rattle.std.specs.Prelude.{Ok as Length, Err as Refused}
 use Rattle.refusals.specs.Refusals.{write_number}
 use Rattle.refusals.specs.declared.WriteRefusal.{WriteRefusal}
 use Rattle.refusals.proofs.Numbers.{write_positive}
 
 module _ (year quarter : ℕ) (name sheet : List ℕ) (room : ℕ) where
-  refused_by : (r : ℕ) → r ≡ refusal_of year quarter name sheet room → 1 ≤ r → answered year quarter name sheet room ≡ Refused r
+  refused_by : (r : ℕ) → r ≡ refusal_of year quarter name sheet room → 1 ≤ r → answered year quarter name sheet room ≡ Err r
   unfolding answered_in
   refused_by zero e h = absurd (omega arith)
   refused_by (suc r) e h = rw (← e, answered_in)
 
   pub refused_answer : (e : WriteRefusal) → write_number e ≡ refusal_of year quarter name sheet room →
-      answered year quarter name sheet room ≡ Refused (write_number e)
+      answered year quarter name sheet room ≡ Err (write_number e)
   refused_answer e told = refused_by (write_number e) told (write_positive e)
 
-  pub taken_answer : 0 ≡ refusal_of year quarter name sheet room → answered year quarter name sheet room ≡ Length (report_length (shape_of sheet))
+  pub taken_answer : 0 ≡ refusal_of year quarter name sheet room → answered year quarter name sheet room ≡ Ok (report_length (shape_of sheet))
   unfolding answered_in
   taken_answer e = rw (← e, answered_in)
 

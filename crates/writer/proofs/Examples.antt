@@ -1,5 +1,5 @@
 -- The paper's worked hour and its empty quarter: what the writer gives for them, byte by byte; and flows that it refuses or takes.
-use Rattle.std.specs.Prelude.{◌≡◌, refl, List, [], ◌∷◌, map, ℕ, ◌+◌, ◌*◌, ◌^◌, replicate}
+use Rattle.std.specs.Prelude.{◌≡◌, refl, List, [], ◌∷◌, map, ℕ, ◌+◌, ◌*◌, ◌^◌, replicate, Ok, Err}
 use Rattle.exact.specs.Logic.{ranked}
 use Rattle.columns.specs.Bytes.{all}
 use Rattle.columns.specs.Columns.{put}
@@ -17,7 +17,6 @@ use Rattle.sheet.specs.SheetTests.{every, heading_holds, hour_holds, hours_rise,
 use Rattle.writer.specs.Refusals.{figures_hold, refusal_in}
 use Rattle.records.specs.Records.{headed, valued, facility_record, totals_record}
 use Rattle.writer.specs.Written.{Written, hour_record, written_records, lined, report, answered, buffered, answered_in, buffered_in}
-use Rattle.std.specs.Prelude.{Ok as Length, Err as Refused}
 
 -- STACK1
 abbrev pub stack : List ℕ
@@ -63,7 +62,7 @@ empty =
     32 ∷ 32 ∷ 32 ∷ 32 ∷ 48 ∷ 46 ∷ 48 ∷ 32 ∷ 32 ∷ 32 ∷ 32 ∷ 32 ∷ 32 ∷ 32 ∷ 32 ∷ 48 ∷ 46 ∷ 48 ∷ 32 ∷ 32 ∷ 32 ∷ 32 ∷ 32 ∷ 32 ∷ 32 ∷ 32 ∷ 48 ∷ 46 ∷
     48 ∷ 32 ∷ 48 ∷ 46 ∷ 48 ∷ 48 ∷ 48 ∷ 32 ∷ 32 ∷ 32 ∷ 32 ∷ 32 ∷ 32 ∷ 32 ∷ 32 ∷ 48 ∷ 46 ∷ 48 ∷ 10 ∷ []
 
-pub worked_written : (answered 2005 3 stack worked_sheet 393 ≡ Length 393) × (buffered 2005 3 stack worked_sheet (replicate 393 0) ≡ worked)
+pub worked_written : (answered 2005 3 stack worked_sheet 393 ≡ Ok 393) × (buffered 2005 3 stack worked_sheet (replicate 393 0) ≡ worked)
 unfolding worked all put digits_of digit_or_blank leading whole_written fixed_written written leap_year days_in_month days_in_quarter hours_in_quarter days_before
     month_of_day date_of_hour over total_of stamp_number stamp_of rounded_value rounded_figures totals_of mean_of quarter_of quarter_totals sheet_hour_in ranked
     sheet_hours_in report_length within every heading_holds kinds_rise_in kinds_hold_in hour_holds hours_rise sheet_holds_in readings_hold_in figures_hold
@@ -75,17 +74,17 @@ worked_written = (refl, refl)
 abbrev answers_to : List ℕ → List Written
 answers_to flows = map (λ flow. answered 2005 3 stack (sheet_with flow) 393) flows
 
-pub flow_refused : answers_to (10_000_000 ∷ 20_000_000 ∷ 536_870_911 ∷ []) ≡ replicate 3 (Refused 32)
+pub flow_refused : answers_to (10_000_000 ∷ 20_000_000 ∷ 536_870_911 ∷ []) ≡ replicate 3 (Err 32)
 unfolding all leap_year days_in_month days_in_quarter hours_in_quarter over rounded_value rounded_figures sheet_hour_in ranked sheet_hours_in report_length within every
     heading_holds kinds_rise_in kinds_hold_in hour_holds hours_rise sheet_holds_in readings_hold_in figures_hold refusal_in answered_in
 flow_refused = refl
 
-pub flow_taken : answers_to (0 ∷ 1 ∷ 20_000 ∷ 500_000 ∷ 500_001 ∷ 600_000 ∷ []) ≡ replicate 6 (Length 393)
+pub flow_taken : answers_to (0 ∷ 1 ∷ 20_000 ∷ 500_000 ∷ 500_001 ∷ 600_000 ∷ []) ≡ replicate 6 (Ok 393)
 unfolding all leap_year days_in_month days_in_quarter hours_in_quarter over total_of rounded_value rounded_figures sheet_hour_in ranked sheet_hours_in report_length within every
     heading_holds kinds_rise_in kinds_hold_in hour_holds hours_rise sheet_holds_in readings_hold_in figures_hold refusal_in answered_in
 flow_taken = refl
 
-pub empty_written : (answered 2005 3 stack [] 75 ≡ Length 75) × (buffered 2005 3 stack [] (replicate 75 0) ≡ empty)
+pub empty_written : (answered 2005 3 stack [] 75 ≡ Ok 75) × (buffered 2005 3 stack [] (replicate 75 0) ≡ empty)
 unfolding empty all put digits_of digit_or_blank leading whole_written fixed_written written leap_year days_in_month days_in_quarter hours_in_quarter days_before
     month_of_day date_of_hour over total_of stamp_number stamp_of rounded_value rounded_figures totals_of mean_of quarter_of quarter_totals sheet_hour_in ranked
     sheet_hours_in report_length within every heading_holds kinds_rise_in kinds_hold_in hour_holds hours_rise sheet_holds_in readings_hold_in figures_hold

@@ -1,7 +1,7 @@
 -- Every answer of the writer is of a row of its table, and the table has one number. Table.antt has the rows. What is not refused can be
 -- written, and an answer's number tells a length from a refusal.
 use Prim.Native.Nat.{ℕ, zero, suc, ◌+◌, ◌*◌, ◌≤◌}
-use Rattle.std.specs.Prelude.{◌≡◌, List, Bool, leb}
+use Rattle.std.specs.Prelude.{◌≡◌, List, Bool, leb, Ok, Err}
 use Rattle.std.proofs.Math.Path.{refl}
 use Rattle.std.proofs.Math.Bool.{true, false}
 use borrow.Author.Tests.{leb-true}
@@ -21,7 +21,6 @@ use Rattle.writer.specs.WriterClauses.{writer_clauses}
 use Rattle.writer.proofs.WriterClauseLaws.{own_length, refusal_told}
 use Rattle.writer.specs.Table.{InWriterTable}
 use Rattle.writer.specs.Table.InWriterTable.{report_written, refused}
-use Rattle.std.specs.Prelude.{Ok as Length, Err as Refused}
 
 module _ (year quarter : ℕ) (name sheet : List ℕ) (room : ℕ) where
   -- every answer is of a row
@@ -30,7 +29,7 @@ module _ (year quarter : ℕ) (name sheet : List ℕ) (room : ℕ) where
   answer_in_table = go (refusal_of year quarter name sheet room) (refusal_told year quarter name sheet room)
     where
       go : (f : ℕ) → Told f (writer_clauses year quarter name sheet room) →
-          InWriterTable year quarter name sheet room (written_number (elim f [ zero ↦ Length (report_length (shape_of sheet)) | suc c ↦ Refused (suc c) ]))
+          InWriterTable year quarter name sheet room (written_number (elim f [ zero ↦ Ok (report_length (shape_of sheet)) | suc c ↦ Err (suc c) ]))
       go zero t = written (t.right refl)
         where
           written : Hold (writer_clauses year quarter name sheet room) → InWriterTable year quarter name sheet room (report_length (shape_of sheet))
@@ -75,12 +74,12 @@ module _ (year quarter : ℕ) (name sheet : List ℕ) (room : ℕ) where
       go true true true true = omega arith
 
   pub number_tells : shortest_report ≤ written_number (answered year quarter name sheet room) →
-      answered year quarter name sheet room ≡ Length (report_length (shape_of sheet))
+      answered year quarter name sheet room ≡ Ok (report_length (shape_of sheet))
   unfolding answered_in
   number_tells h = go (refusal_of year quarter name sheet room) refusal_small h
     where
       go : (f : ℕ) → f ≤ 34
-          → shortest_report ≤ written_number (elim f [ zero ↦ Length (report_length (shape_of sheet)) | suc c ↦ Refused (suc c) ])
-          → ◌≡◌ {A = Written} (elim f [ zero ↦ Length (report_length (shape_of sheet)) | suc c ↦ Refused (suc c) ]) (Length (report_length (shape_of sheet)))
+          → shortest_report ≤ written_number (elim f [ zero ↦ Ok (report_length (shape_of sheet)) | suc c ↦ Err (suc c) ])
+          → ◌≡◌ {A = Written} (elim f [ zero ↦ Ok (report_length (shape_of sheet)) | suc c ↦ Err (suc c) ]) (Ok (report_length (shape_of sheet)))
       go zero s h = refl
       go (suc c) s h = absurd (omega (arith, report_length_lem (shape 0)))

@@ -1,6 +1,5 @@
 -- A report, byte by byte; the writer's answer to a sheet, and the lent buffer afterwards.
-use Rattle.std.specs.Prelude.{ℕ, zero, suc, cond, List, [], ◌∷◌, ◌++◌, map, eqb, length, drop, Result}
-use Rattle.std.specs.Prelude.{Ok as Length, Err as Refused}
+use Rattle.std.specs.Prelude.{ℕ, zero, suc, cond, List, [], ◌∷◌, ◌++◌, map, eqb, length, drop, Result, Ok, Err}
 use Rattle.layout.specs.Layout.{once_or_dated, record_of, code_of, order, shape, report_length, joined_runs}
 use Rattle.stamp.specs.Stamp.{stamp_of}
 use Rattle.totals.specs.Totals.{quarter_totals}
@@ -39,8 +38,8 @@ Written = Result ℕ ℕ
 
 -- what an answer says, as the paper has it: the length written, or the refusal's number alone
 abbrev pub written_number : Written → ℕ
-written_number (Length n) = n
-written_number (Refused number) = number
+written_number (Ok n) = n
+written_number (Err number) = number
 
 -- the shortest report, which has no operating hour, is longer than a refusal's number is great: so the number tells the two apart
 abbrev pub shortest_report : ℕ
@@ -49,7 +48,7 @@ shortest_report = report_length (shape 0)
 -- to a sheet and a buffer of so many bytes
 unfoldable pub answered_in : SheetForm → ℕ → ℕ → List ℕ → List ℕ → ℕ → Written
 answered_in f year quarter name sheet room =
-    elim (refusal_in f year quarter name sheet room) [ zero ↦ Length (report_length (shape_of sheet)) | suc c ↦ Refused (suc c) ]
+    elim (refusal_in f year quarter name sheet room) [ zero ↦ Ok (report_length (shape_of sheet)) | suc c ↦ Err (suc c) ]
 
 abbrev pub answered : ℕ → ℕ → List ℕ → List ℕ → ℕ → Written
 answered = answered_in present_form

@@ -45,7 +45,14 @@ const HOURLY: [RecordType; 8] = [
 
 // The lines of hour k.
 #[tactic(auto, using(crate::proofs::LineSteps::line_more, crate::proofs::LineSteps::line_end))]
-fn write_hour_lines(buffer: &mut [u8], name: &[u8], s: Shape, k: usize, date: u64, h: Hour)
+fn write_hour_lines(
+    buffer: &mut [u8],
+    name: &[u8; layout::STACK_WIDTH],
+    s: Shape,
+    k: usize,
+    date: u64,
+    h: Hour,
+)
     requires { HourFits s k name.now buffer.old × ReadingsWithin h.readings }
     ensures { buffer.new ≡ hour_lines name.now s k (digits_of date_width date) h (hourly order) buffer.old }
 {
@@ -55,7 +62,13 @@ fn write_hour_lines(buffer: &mut [u8], name: &[u8], s: Shape, k: usize, date: u6
 }
 
 // The lines of all hours; returns the totals that they form.
-fn write_hours(buffer: &mut [u8], name: &[u8], sheet: &[u32], year: u64, quarter: u64) -> Quarter
+fn write_hours(
+    buffer: &mut [u8],
+    name: &[u8; layout::STACK_WIDTH],
+    sheet: &[u32],
+    year: u64,
+    quarter: u64,
+) -> Quarter
     requires { Fits year quarter name.now sheet.now buffer.old }
     ensures { (result ≡ quarter_totals (recorded_hours (report_hours (sheet_hours sheet.now))))
         × (buffer.new
@@ -74,7 +87,13 @@ fn write_hours(buffer: &mut [u8], name: &[u8], sheet: &[u32], year: u64, quarter
     totals.quarter()
 }
 
-pub fn write_report(buffer: &mut [u8], name: &[u8], sheet: &[u32], year: u64, quarter: u64)
+pub fn write_report(
+    buffer: &mut [u8],
+    name: &[u8; layout::STACK_WIDTH],
+    sheet: &[u32],
+    year: u64,
+    quarter: u64,
+)
     requires { Fits year quarter name.now sheet.now buffer.old }
     ensures { buffer.new
         ≡ put 1 (report year quarter name.now (report_hours (sheet_hours sheet.now))) buffer.old }

@@ -10,13 +10,13 @@ use Rattle.writer.proofs.HourLines.{with_totals, report_written_lem}
 use Rattle.writer.proofs.report.write_report.Goals as goal
 
 pub write_facility-requires : goal.write_facility-requires
-write_facility-requires c = (omega (arith, line_inside (shape_of c.args.sheet.now) Facility 0 (lit< tt), c.requires.room), c.requires.named)
+write_facility-requires c = omega (arith, line_inside (shape_of c.args.sheet.now) Facility 0 (lit< tt), c.requires.room)
 
 pub write_totals-requires : goal.write_totals-requires
 write_totals-requires c =
     let starts = rw c.shape_of.ensures at c.offset_of-at.ensures in
     let inside = line_inside (shape_of c.args.sheet.now) QuarterTotals 0 (lit< tt) in
-    (rw starts (omega (arith, inside, c.requires.room, c.write_hours-totals.auto.buffer, c.write_facility.auto.buffer)), c.requires.named)
+    rw starts (omega (arith, inside, c.requires.room, c.write_hours-totals.auto.buffer, c.write_facility.auto.buffer))
 
 pub returns : goal.returns
 returns c =
