@@ -1,7 +1,7 @@
 -- What a line is tried for, refused there: from the refusal to the fault, and from what passes to what was tried.
 use Rattle.std.specs.Prelude.{ℕ, ◌≡◌, Result, Ok, Err, IsErrAnd}
 use Rattle.std.proofs.lemmas.Result.{err_from_is_err_and}
-use Rattle.std.proofs.Common.{refl, sym, ap, ◌∙◌, arith}
+use Rattle.std.proofs.Common.{refl, ap, ◌∙◌, arith}
 use Rattle.refusals.specs.Refusals.{PaperRefusal, fault_number, on_paper, refusal_at, told, fault_in}
 use Rattle.refusals.specs.declared.Fault.{Fault}
 use Rattle.refusals.specs.declared.Refusal.{Refusal}
