@@ -37,13 +37,7 @@ row_room Flow = record {
   fits = lit≤ tt;
 }
 
--- the number in the columns fits 64 bits before it is tried, and its units fit a word once it is within
-pub number_room : (c : Channel) (n : ℕ) → n ≤ (recording_unit c).den * 2 ^ 53 → (column_of c).step * n < 2 ^ 64
-number_room So2 n h = omega arith
-number_room Nox n h = omega arith
-number_room Co2 n h = omega arith
-number_room Flow n h = omega arith
-
+-- the units of a number within its columns fit a word
 pub most_held : (c : Channel) (n : ℕ) → (column_of c).step * n ≤ (column_of c).most → n < value_size
 most_held So2 n h = omega arith
 most_held Nox n h = omega arith

@@ -6,7 +6,8 @@ use Rattle.std.specs.Prelude.{true, false, ◌⊎◌, List, [], ◌∷◌, ◌++
 use Rattle.exact.specs.Faults.{◌or_else◌, or_first, or_zero}
 use Rattle.exact.specs.Logic.{All}
 use Rattle.layout.specs.Values.{in_range}
-use Rattle.recorder.specs.Recording.{usable, channels, column_of, reading_of, column_number, float_fault, fault_of, first_fault, word_for, words_for, Recorded, recorded_of}
+use Rattle.recorder.specs.Recording.{usable, channels, column_of, reading_of, column_number, float_fault, fault_of, first_fault}
+use Rattle.recorder.specs.Recording.{word_for, words_for, Recorded, recorded_of}
 use Rattle.refusals.specs.Refusals.{recorder_number}
 use Rattle.refusals.specs.declared.RecorderRefusal.{RecorderRefusal}
 use Rattle.refusals.proofs.Numbers.{recorder_positive}
