@@ -1,5 +1,5 @@
 -- A float taken apart, its channel's row and the units counted: what the code then decides.
-use Rattle.std.specs.Prelude.{◌≡◌, ℕ, ◌*◌, ◌≤◌, ◌<◌, ◌^◌, true, false, Float}
+use Rattle.std.specs.Prelude.{◌≡◌, ℕ, ◌*◌, ◌≤◌, ◌<◌, ◌^◌, true, false, Some, Float}
 use Rattle.std.proofs.Common.{sym, ap, ◌∙◌, pow_pos}
 use Rattle.layout.specs.Values.{in_range}
 use Rattle.layout.specs.LayoutLaws.{in_range_true}
@@ -13,7 +13,7 @@ use Rattle.recorder.proofs.CountLaws.{count_exact}
 use Rattle.recorder.proofs.ChannelLaws.{most_held, beyond}
 use Rattle.recorder.proofs.RecorderLaws.{fault_46, fault_none}
 
-module _ (c : Channel) (x : Float) (p : Parts) (k : PartsOf x p) where
+module _ (c : Channel) (x : Float) (p : Parts) (k : PartsOf x (Some p)) where
   pub far_outside : float_scale ≤ p.exponent → 46 ≡ float_fault c x
   far_outside h = fault_46 c x k.is_usable (beyond c x p k h)
 
@@ -28,7 +28,7 @@ module _ (c : Channel) (x : Float) (p : Parts) (k : PartsOf x p) where
     units_outside e = fault_46 c x k.is_usable (rw (r, units_are) at e)
 
     pub units_inside : in_range row.column (row.column.step * units) ≡ true →
-        (float_fault c x ≡ 0) × (units < value_size) × (units ≡ units_in (recording_unit c) x)
+        (0 ≡ float_fault c x) × (units < value_size) × (units ≡ units_in (recording_unit c) x)
     units_inside e =
         let i : in_range (column_of c) (column_number c x) ≡ true = rw (r, units_are) at e in
-        (sym (fault_none c x k.is_usable i), rw units_are (most_held c _ (in_range_true (column_of c) (column_number c x) i).1), units_are)
+        (fault_none c x k.is_usable i, rw units_are (most_held c _ (in_range_true (column_of c) (column_number c x) i).1), units_are)
