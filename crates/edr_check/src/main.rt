@@ -31,6 +31,7 @@ fn read_report(input: &mut Stdin, report: &mut [u8]) -> Reads
     ensures { ReadTo (length report.old) result }
 {
     let mut size = 0;
+    // Each read says how far it came; there is no heap for `read_to_end`.
     while size < report.len() {
         match input.read(&mut report[size..]) {
             Ok(0) => {
