@@ -9,7 +9,7 @@ use Rattle.reading.specs.Recorded.{records_of}
 use Rattle.reading.specs.Places.{Standing, Stands}
 use Rattle.reading.specs.RecordLaws.{records_standing}
 use Rattle.reading.specs.RankLaws.{hour_stands, once_stands}
-use Rattle.recorded.proofs.place_of.Goals as goal
+use Rattle.recorded.proofs.Records.place_of.Goals as goal
 
 module _ (file : List ℕ) (s : Shape) (d : Standing file s) (t : RecordType) (k : ℕ) (some : k < length (records_of file t)) where
   -- there are as many records as the run has operating hours, or one
@@ -24,8 +24,9 @@ module _ (file : List ℕ) (s : Shape) (d : Standing file s) (t : RecordType) (k
 
 pub returns-in-Once : goal.returns-in-Once
 returns-in-Once c =
+    let r = c.args.self in
     let row = sym (ap (λ (r : Row). r.run) c.row_of.ensures) in
     ⊎_elim
-    (λ e. once c.args.file.now c.args.s c.requires.0 c.args.t c.args.k c.requires.1 (row ∙ e))
-    (λ e. hourly c.args.file.now c.args.s c.requires.0 c.args.t c.args.k c.requires.1 (row ∙ e))
+    (λ e. once r.file.now r.shape r.standing c.args.t c.args.k c.requires (row ∙ e))
+    (λ e. hourly r.file.now r.shape r.standing c.args.t c.args.k c.requires (row ∙ e))
     c.in-Once.is

@@ -13,7 +13,7 @@ use Rattle.reading.specs.Places.{line_at, Standing}
 use Rattle.reading.specs.RankLaws.{value_stands, hour_stands}
 use Rattle.recorded.specs.declared.ListedHour.{ListedHour}
 use Rattle.recorded.proofs.LineLaws.{on_line}
-use Rattle.recorded.proofs.hour.Goals as goal
+use Rattle.recorded.proofs.Records.hour.Goals as goal
 
 -- the values of the hour's records, by rank
 module _ (file : List ℕ) (s : Shape) (d : Standing file s) (t : RecordType) (e : (record_of t).run ≡ Hourly) (k : ℕ) (h : k < s.hours) where
@@ -27,13 +27,14 @@ pub returns : goal.returns
 unfolding hour_at
 returns c =
     let x = c.args in
-    let listed = value_stands x.file.now x.s Operation x.k x.at.place c.requires.2 in
+    let r = x.self in
+    let listed = value_stands r.file.now r.shape Operation x.k x.at.place c.requires.1 in
     let own : (t : RecordType) → (record_of t).run ≡ Hourly → (i : ℕ) →
-    number_of (field_in (value_at t i) (line_at x.file.now x.s t x.k).text) ≡ value_on x.file.now t x.k i =
-    λ t e. ranked x.file.now x.s c.requires.0 t e x.k c.requires.1 in
+    number_of (field_in (value_at t i) (line_at r.file.now r.shape t x.k).text) ≡ value_on r.file.now t x.k i =
+    λ t e. ranked r.file.now r.shape r.standing t e x.k c.requires.0 in
     λ i. record {
-      time = (ap (λ (at : ListedHour). at.time) c.requires.3 ∙ listed 0) i;
-      gas = (c.has_gas.ensures ∙ ap has_gas (c.line_at-mass.ensures.1 ∙ own_text x.file.now x.s c.requires.0 So2Mass refl x.k c.requires.1)) i;
+      time = (ap (λ (at : ListedHour). at.time) c.requires.2 ∙ listed 0) i;
+      gas = (c.has_gas.ensures ∙ ap has_gas (c.line_at-mass.ensures.1 ∙ own_text r.file.now r.shape r.standing So2Mass refl x.k c.requires.0)) i;
       readings = record {
         so2 = (c.value.ensures ∙ on_line c.line_at.ensures 0 ∙ own So2Concentration refl 0) i;
         nox = (c.value-2.ensures ∙ on_line c.line_at-2.ensures 0 ∙ own NoxConcentration refl 0) i;
