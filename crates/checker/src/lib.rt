@@ -75,9 +75,6 @@ fn judge(records: Records) -> Result<Quarter, Refusal>
 pub fn check(file: &[u8]) -> Result<Quarter, Refusal>
     ensures { (told on_paper result ≡ checked file.now) × Promise file.now (told on_paper result) }
 {
-    let report = reading::read(file)?;
-    judge(Records {
-        file,
-        shape: report.shape,
-    })
+    let shape = reading::read(file)?.shape;
+    judge(Records { file, shape })
 }
