@@ -12,6 +12,7 @@ ghost use Rattle.writer.specs.Writable.{Fits};
 ghost use Rattle.writer.specs.Written.{report};
 ghost use Rattle.writer.specs.HourLines.{hour_lines, hours_lines};
 
+use calendar::Period;
 use formulas::hour::Hour;
 use layout::{RecordType, Shape};
 use sheet::SheetHour;
@@ -68,10 +69,11 @@ fn write_hours(
         buffer.old) }
 {
     let s = sheet::shape_of(sheet);
+    let period = Period::new(year, quarter);
     let mut totals = Totals::none();
     for k in 0..s.hours {
         let h = sheet::hour_at(sheet, k);
-        let date = stamp::stamp_number(year, quarter, h.hour);
+        let date = stamp::stamp_number(period, h.hour);
         let recorded = recorded_hour(h);
         totals = totals.with_hour(recorded.figures, recorded.time);
         write_hour_lines(buffer, name, s, k, date, recorded);
