@@ -17,7 +17,7 @@ pub record IsQuarter (quarter : ℕ) : Type 0 where
   pub least : 1 ≤ quarter
   pub most : quarter ≤ 4
 
--- a year and one of its quarters
+-- a year, and the number of a quarter of it
 pub record Period : Type 0 where
   pub year : ℕ
   pub quarter : ℕ

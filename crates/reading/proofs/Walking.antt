@@ -25,7 +25,7 @@ pub no_lines : (file : List ℕ) (at : ℕ) → length file ≤ at → lines (dr
 unfolding lines
 no_lines file at h = rw (drop_of_length-le file h)
 
--- a period has no more hours than any quarter
+-- a period has no more hours than the longest quarter
 abbrev pub FewHours : Period → Type 0
 FewHours period = hours_in_quarter period.year period.quarter ≤ most_hours
 
