@@ -131,6 +131,7 @@ fn walk_operations(file: &[u8], period: Period, n: usize, start: Cursor) -> Resu
     let mut line = start.line;
     let mut from = 0;
     let mut rank = 0;
+    // No count of turns: each line is looked at in all that is left, and says how far the next one is.
     while at < file.len() {
         let rest = &file[at..];
         if !lines::shape::type_is(rest, RecordType::Operation) {
@@ -228,6 +229,7 @@ pub fn walk_hours(file: &[u8], period: Period) -> Result<Report, Refusal>
     let mut n = 0;
     let mut from = 0;
     let mut at = layout::FACILITY_BYTES;
+    // As in the walk over the 300 lines.
     while at < file.len() {
         let rest = &file[at..];
         if !lines::shape::type_is(rest, RecordType::So2Concentration) {
