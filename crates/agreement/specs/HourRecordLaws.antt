@@ -33,7 +33,7 @@ use Rattle.lines.specs.LineFaults.{rising_fault, hour_on, dated_fault, hour_faul
 use Rattle.lines.specs.FaultLaws.{DueRight}
 use Rattle.lines.proofs.FaultLaws.{so2_right}
 use Rattle.lines.proofs.OperationLaws.{operation_said, due_operates, due_operation}
-use Rattle.lines.specs.declared.Period.{Period}
+use Rattle.calendar.specs.Calendar.{Period}
 use Rattle.lines.specs.declared.operation.OperationLine.TheVariants.{Operating}
 use Rattle.sheet.specs.SheetTests.{Heading}
 use Rattle.writer.specs.Recorded.{ReportHour}

@@ -24,7 +24,7 @@ use Rattle.lines.proofs.OperationLaws.{said_operating}
 use Rattle.lines.specs.RightLine.{RightListed}
 use Rattle.lines.proofs.RightLaws.{facility_right, hour_right, due_says, RightTime, operation_right}
 use Rattle.lines.proofs.RightLaws.RightTime.{runs}
-use Rattle.lines.specs.declared.Period.{Period}
+use Rattle.calendar.specs.Calendar.{Period}
 use Rattle.reading.specs.RightFile.{RightHours, RightRun, RightOperations, RightFile}
 use Rattle.reading.specs.RightFile.RightOperations.{done, operating}
 use Rattle.reading.specs.declared.Report.{Report}

@@ -41,6 +41,7 @@ fn follows(previous: YearToDate, year: u64, quarter: u64, answer: Quarter) -> bo
     if !values::within(values::QUARTER, quarter) || previous.quarter != quarter - 1 {
         return false;
     }
+    // With `&&` each test is a goal of its own, and these did not close.
     (previous.year == year)
         & ((previous.quarter != 0) | all_zeros(previous))
         & (answer.hours <= calendar::MOST_HOURS)

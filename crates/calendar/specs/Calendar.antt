@@ -17,6 +17,14 @@ pub record IsQuarter (quarter : ℕ) : Type 0 where
   pub least : 1 ≤ quarter
   pub most : quarter ≤ 4
 
+-- a year, and the number of a quarter of it
+pub record Period : Type 0 where
+  pub year : ℕ
+  pub quarter : ℕ
+
+abbrev pub period_of : ℕ → ℕ → Period
+period_of year quarter = record { year = year; quarter = quarter }
+
 abbrev pub first_month : ℕ → ℕ
 first_month quarter = 3 * (quarter - 1) + 1
 

@@ -2,7 +2,10 @@
 #![tactic(auto)]
 
 ghost use Rattle.std.specs.Prelude.{◌≡◌, ◌+◌, ◌≤◌, ◌<◌};
-ghost use Rattle.calendar.specs.Calendar.{IsQuarter, leap_year, days_in_month, first_month, hours_in_quarter, days_before, quarter_hour, date_of_hour};
+ghost use Rattle.calendar.specs.Calendar.{IsQuarter, TwoDigits, most_hours, leap_year, days_in_month, first_month, hours_in_quarter, days_before};
+ghost use Rattle.calendar.specs.Calendar.{quarter_hour, date_of_hour, period_of};
+
+use std::marker::Model;
 
 // No quarter has more hours.
 pub const MOST_HOURS: u64 = 2208;
@@ -13,6 +16,25 @@ pub struct Date {
     pub month: u64,
     pub day: u64,
     pub hour: u64,
+}
+
+// A quarter of a year, 1 to 4.
+#[derive(Clone, Copy)]
+pub struct Period {
+    pub year: u64,
+    quarter: u64,
+}
+
+impl Model for Period {
+    ghost use Rattle.calendar.specs.Calendar.{Period, IsQuarter};
+
+    ghost Value = { Period };
+
+    ghost view = { λ p. record { year = p.year; quarter = p.quarter } };
+
+    ghost invariant = { λ p. IsQuarter p.quarter };
+
+    ghost inverse = { λ p. record { year = p.year; quarter = p.quarter } };
 }
 
 #[tactic(auto, unfolding(crate::specs::Calendar::leap_year))]
@@ -38,23 +60,6 @@ pub fn days_in_month(year: u64, month: u64) -> u64
     }
 }
 
-fn first_month(quarter: u64) -> u64
-    requires { IsQuarter quarter }
-    ensures { result ≡ first_month quarter }
-{
-    3 * (quarter - 1) + 1
-}
-
-pub fn hours_in_quarter(year: u64, quarter: u64) -> u64
-    requires { IsQuarter quarter }
-    ensures { result ≡ hours_in_quarter year quarter }
-{
-    let first = first_month(quarter);
-    24 * (days_in_month(year, first)
-        + days_in_month(year, first + 1)
-        + days_in_month(year, first + 2))
-}
-
 // The days of the quarter that starts with the month `first`, before a month of it.
 fn days_before(year: u64, first: u64, month: u64) -> u64
     requires { (first ≤ 10) × (first ≤ month) × (month ≤ first + 2) }
@@ -70,58 +75,84 @@ fn days_before(year: u64, first: u64, month: u64) -> u64
     days + days_in_month(year, first + 1)
 }
 
-// The hour of the quarter at which a date lies, if it is one of it; its month, day and hour may be any numbers.
-pub fn hour_of_quarter(year: u64, quarter: u64, date: Date) -> Option<u64>
-    requires { IsQuarter quarter }
-    ensures { result ≡ quarter_hour year quarter date }
-{
-    let first = first_month(quarter);
-    let month = date.month;
-    if month < first {
-        return None;
+impl Period {
+    pub fn new(year: u64, quarter: u64) -> Self
+        requires { IsQuarter quarter }
+        ensures { result ≡ period_of year quarter }
+    {
+        Period { year, quarter }
     }
-    if first + 2 < month {
-        return None;
-    }
-    if date.day < 1 {
-        return None;
-    }
-    if days_in_month(year, month) < date.day {
-        return None;
-    }
-    if 23 < date.hour {
-        return None;
-    }
-    Some(24 * (days_before(year, first, month) + (date.day - 1)) + date.hour)
-}
 
-// The date of an hour of the quarter.
-pub fn date_of_hour(year: u64, quarter: u64, hour: u64) -> Date
-    requires { IsQuarter quarter × (hour < hours_in_quarter year quarter) }
-    ensures { result ≡ date_of_hour year quarter hour }
-{
-    let first = first_month(quarter);
-    let day = hour / 24;
-    // The days on which the second and the third month start, the first day being 0.
-    let second = days_in_month(year, first);
-    if day < second {
-        return Date {
-            month: first,
-            day: day + 1,
-            hour: hour % 24,
-        };
+    fn first_month(self) -> u64
+        ensures months { result ≡ first_month self.quarter }
+        ensures most { result ≤ 10 }
+    {
+        3 * (self.quarter - 1) + 1
     }
-    let third = second + days_in_month(year, first + 1);
-    if day < third {
-        return Date {
-            month: first + 1,
-            day: day - second + 1,
-            hour: hour % 24,
-        };
+
+    pub fn hours(self) -> u64
+        ensures hours { result ≡ hours_in_quarter self.year self.quarter }
+        ensures most { result ≤ most_hours }
+    {
+        let first = self.first_month();
+        24 * (days_in_month(self.year, first)
+            + days_in_month(self.year, first + 1)
+            + days_in_month(self.year, first + 2))
     }
-    Date {
-        month: first + 2,
-        day: day - third + 1,
-        hour: hour % 24,
+
+    // The hour of the quarter at which a date lies, if it is one of it; its month, day and hour may be any numbers.
+    pub fn hour_of(self, date: Date) -> Option<u64>
+        ensures { result ≡ quarter_hour self.year self.quarter date }
+    {
+        let first = self.first_month();
+        let month = date.month;
+        if month < first {
+            return None;
+        }
+        if first + 2 < month {
+            return None;
+        }
+        if date.day < 1 {
+            return None;
+        }
+        if days_in_month(self.year, month) < date.day {
+            return None;
+        }
+        if 23 < date.hour {
+            return None;
+        }
+        Some(24 * (days_before(self.year, first, month) + (date.day - 1)) + date.hour)
+    }
+
+    // The date of an hour of the quarter.
+    pub fn date_of(self, hour: u64) -> Date
+        requires { hour < hours_in_quarter self.year self.quarter }
+        ensures date { result ≡ date_of_hour self.year self.quarter hour }
+        ensures digits { TwoDigits result }
+    {
+        let first = self.first_month();
+        let day = hour / 24;
+        // The days on which the second and the third month start, the first day being 0.
+        let second = days_in_month(self.year, first);
+        if day < second {
+            return Date {
+                month: first,
+                day: day + 1,
+                hour: hour % 24,
+            };
+        }
+        let third = second + days_in_month(self.year, first + 1);
+        if day < third {
+            return Date {
+                month: first + 1,
+                day: day - second + 1,
+                hour: hour % 24,
+            };
+        }
+        Date {
+            month: first + 2,
+            day: day - third + 1,
+            hour: hour % 24,
+        }
     }
 }

@@ -1,6 +1,6 @@
 -- Laws of the loop over the low four bits: one byte further, its room, and the end.
-use Rattle.std.proofs.Common.{sym, refl, ap, ◌∙◌, ◌-◌, ◌≡◌, ℕ, suc, ◌+◌, ◌*◌, ◌%◌, ◌^◌, ◌<◌, ◌≤◌, List, length, get_or, drop, mul-le-mul_right, mul-le-mul_left, pow-suc, add-one, arith, lit<, drop_of_length-le, drop-cons, pow-add}
-use native.Mathlib.Nat.{sub-zero, pow-zero, one-le-pow, pow-le-pow_right}
+use Rattle.std.proofs.Common.{sym, ap, ◌∙◌, ◌-◌, ◌≡◌, ℕ, suc, ◌+◌, ◌*◌, ◌%◌, ◌^◌, ◌<◌, ◌≤◌, List, length, get_or, drop, mul-le-mul_right, mul-le-mul_left, pow-suc, add-one, arith, lit<, drop_of_length-le, drop-cons, pow-add}
+use native.Mathlib.Nat.{pow-zero, one-le-pow, pow-le-pow_right}
 use Rattle.columns.specs.Worth.{low_from}
 
 pub low_one : (l : List ℕ) (i v : ℕ) → i < length l → low_from (v * 10 + get_or l i 0 % 16) (drop (i + 1) l) ≡ low_from v (drop i l)
@@ -28,9 +28,6 @@ low_last v n m e h = omega (arith, pow-zero 10, rw e at h)
 pub record LowLeft (before : ℕ) (bytes : List ℕ) (v i : ℕ) : Type 0 where
   pub room : (v + 2) * 10 ^ (length bytes - i) ≤ (before + 2) * 10 ^ length bytes
   pub same : low_from v (drop i bytes) ≡ low_from before bytes
-
-pub low_first : (before : ℕ) (bytes : List ℕ) → LowLeft before bytes before 0
-low_first before bytes = record { room = rw sub-zero (omega arith); same = refl }
 
 pub low_whole : (before : ℕ) (bytes : List ℕ) (v i : ℕ) → LowLeft before bytes v i → length bytes ≤ i →
     (v ≡ low_from before bytes) × (v + 2 ≤ (before + 2) * 10 ^ length bytes)

@@ -1,13 +1,10 @@
--- Columns that are as their picture says: one more, and a block more.
+-- Columns that are as their picture says: one more.
 use Rattle.std.proofs.Common.{◌≡◌, ℕ, ◌+◌, ◌<◌, ◌≤◌, Bool, true, ◌&&◌, List, get_or, arith}
 use native.Mathlib.Decide.{dec_lt}
 use Rattle.exact.specs.Logic.{both}
 use Rattle.columns.specs.Picture.{passes, FitsFrom}
 
 module _ (picture line : List ℕ) where
-  pub fits_none : (from to : ℕ) → to ≤ from → FitsFrom from to picture line
-  fits_none from to h = record { column = λ j k l. absurd (omega arith) }
-
   pub fits_one : (from i to : ℕ) (fine : Bool) → to ≡ i + 1 → (fine ≡ true → FitsFrom from i picture line) →
       fine && passes (get_or picture i 0) (get_or line i 0) (get_or line (i + 1) 0) ≡ true → FitsFrom from to picture line
   fits_one from i to fine e k h =
@@ -18,11 +15,3 @@ module _ (picture line : List ℕ) where
           Dec (j < i) → passes (get_or picture j 0) (get_or line j 0) (get_or line (j + 1) 0) ≡ true
       go j m l t w (yes n) = w.column j m n
       go j m l t w (no n) = let e : j ≡ i = omega arith in rw e t
-
-  -- columns behind others, which may overlap them
-  pub fits_more : (from mid i to : ℕ) → mid ≤ i → FitsFrom from i picture line → FitsFrom mid to picture line → FitsFrom from to picture line
-  fits_more from mid i to h a b = record { column = λ j m l. go j m l (dec_lt j i) }
-    where
-      go : (j : ℕ) → from ≤ j → j < to → Dec (j < i) → passes (get_or picture j 0) (get_or line j 0) (get_or line (j + 1) 0) ≡ true
-      go j m l (yes n) = a.column j m n
-      go j m l (no n) = b.column j (omega arith) l

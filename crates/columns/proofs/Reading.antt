@@ -24,14 +24,6 @@ pub above : (low high b : ℕ) → low ≤ b → high < b → leb low b && leb b
 above low high b h k = rw (le-leb low b h) (lt-leb b high k)
 
 module _ (l : List ℕ) (i : ℕ) (inside : i < length l) where
-  pub all_one : (p : ℕ → Bool) → p (get_or l i 0) ≡ true → all p (drop (i + 1) l) ≡ all p (drop i l)
-  unfolding all
-  all_one p e = rw (drop-cons l i 0 inside, add-one i, e, all)
-
-  pub all_stop : (p : ℕ → Bool) → p (get_or l i 0) ≡ false → all p (drop i l) ≡ false
-  unfolding all
-  all_stop p e = rw (drop-cons l i 0 inside, e, all)
-
   pub digits_one : (v : ℕ) → is_digit (get_or l i 0) ≡ true → digits_from (v * 10 + (get_or l i 0 - 48)) (drop (i + 1) l) ≡ digits_from v (drop i l)
   unfolding digits_from
   digits_one v e = rw (drop-cons l i 0 inside, add-one i, e, digits_from)
@@ -39,14 +31,6 @@ module _ (l : List ℕ) (i : ℕ) (inside : i < length l) where
   pub digits_stop : (v : ℕ) → is_digit (get_or l i 0) ≡ false → digits_from v (drop i l) ≡ Malformed
   unfolding digits_from
   digits_stop v e = rw (drop-cons l i 0 inside, e, digits_from)
-
-  pub whole_one : get_or l i 0 ≡ 32 → whole_of (drop (i + 1) l) ≡ whole_of (drop i l)
-  unfolding whole_of
-  whole_one e = rw (drop-cons l i 0 inside, add-one i, eq-eqb (get_or l i 0) 32 e, whole_of)
-
-  pub whole_digits : (get_or l i 0 ≡ 32 → ⊥) → whole_of (drop i l) ≡ digits_from 0 (drop i l)
-  unfolding whole_of
-  whole_digits e = rw (drop-cons l i 0 inside, ne_eqb (get_or l i 0) 32 e, whole_of)
 
   -- without a way out: what was found so far, and what is left
   pub found_one : (p : ℕ → Bool) (fine : Bool) → (fine && p (get_or l i 0)) && all p (drop (i + 1) l) ≡ fine && all p (drop i l)
@@ -66,10 +50,6 @@ module _ (l : List ℕ) (i : ℕ) (past : length l ≤ i) where
   pub digits_end : (v : ℕ) → digits_from v (drop i l) ≡ Number v
   unfolding digits_from
   digits_end v = rw (drop_of_length-le l past)
-
-  pub whole_end : whole_of (drop i l) ≡ Blank
-  unfolding whole_of
-  whole_end = rw (drop_of_length-le l past)
 
 -- what was found stands where nothing is left
 pub found_end : (fine rest : Bool) → rest ≡ true → fine ≡ fine && rest

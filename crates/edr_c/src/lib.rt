@@ -172,6 +172,7 @@ pub extern "C" fn edr_recorder_words(states: &[u8], readings: &[f64], answer: &m
     if states.len() != READINGS || readings.len() != READINGS || answer.len() < WORDS_LENGTH {
         return 2;
     }
+    // With `all` the step to the definition, which goes over the list, did not close.
     let known = (states[0] <= ABSENT)
         & (states[1] <= ABSENT)
         & (states[2] <= ABSENT)

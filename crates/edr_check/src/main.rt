@@ -1,22 +1,21 @@
 // Reads a quarterly stack report from standard input and prints what the check answers to it, or "too long", in one line.
 #![tactic(auto)]
 
-ghost use Rattle.std.specs.Prelude.{◌≡◌, ◌≤◌, ◌<◌, ◌^◌, length, pos, negsuc, IfOk, IfErr};
-ghost use Rattle.std.specs.Result.{ForOk};
+ghost use Rattle.std.specs.Prelude.{◌≡◌, ◌≤◌, length};
 ghost use Rattle.columns.specs.Columns.{put};
 ghost use Rattle.checker.specs.Checked.{checked};
 ghost use Rattle.printing.specs.Printed.{printed, longest_line};
-ghost use Rattle.edr_check.specs.Input.{ReadTo, input_of};
+ghost use Rattle.edr_check.specs.Input.{ReadTo, input_of, returned};
 
 use std::io;
 use std::io::{Read, Stdin, Write};
 
 // What the reads of standard input came to: so many bytes of report, and what the last read returned. That is the one that brought
 // nothing, or, behind a report that fills its buffer, the read of one byte more.
-#[derive(Clone, Copy)]
+#[derive(Drop)]
 struct Reads {
     size: usize,
-    last: isize,
+    last: io::Result<usize>,
 }
 
 // What standard input held: a report of so many bytes, more than fits, or what a read refused.
@@ -27,48 +26,43 @@ enum Input {
     Unreadable,
 }
 
-// What a read returned, as the system says it: a count, or a number below 0.
-fn returned(got: io::Result<usize>) -> isize
-    requires { ForOk got (λ n. n < 2 ^ 63) }
-    ensures count { IfOk got (λ n. result ≡ pos n) }
-    ensures refused { IfErr got (λ e. result ≡ negsuc 0) }
-{
-    match got {
-        Ok(count) => count as isize,
-        Err(_) => -1,
-    }
-}
-
 // Reads until the input ends or one byte more than the report holds has come.
 fn read_report(input: &mut Stdin, report: &mut [u8]) -> Reads
     ensures { ReadTo (length report.old) result }
 {
     let mut size = 0;
+    // Each read says how far it came; there is no heap for `read_to_end`.
     while size < report.len() {
-        let got = input.read(&mut report[size..]);
-        let last = returned(got);
-        if last <= 0 {
-            return Reads { size, last };
+        match input.read(&mut report[size..]) {
+            Ok(0) => {
+                return Reads { size, last: Ok(0) };
+            }
+            Ok(more) => {
+                size += more;
+            }
+            Err(error) => {
+                return Reads {
+                    size,
+                    last: Err(error),
+                };
+            }
         }
-        size += last as usize;
     }
     let mut byte = [0u8; 1];
-    let last = returned(input.read(&mut byte));
+    let last = input.read(&mut byte);
     Reads { size, last }
 }
 
 // What it is taken for.
-#[tactic(auto, using(crate::proofs::Inputs::read_below, crate::proofs::Inputs::read_above, crate::proofs::Inputs::read_neither))]
-fn input_of(size: usize, last: isize) -> Input
-    ensures { result ≡ input_of size last }
+#[tactic(auto, unfolding(crate::specs::Input::input_of))]
+fn input_of(size: usize, last: io::Result<usize>) -> Input
+    ensures { result ≡ input_of size (returned last) }
 {
-    if last < 0 {
-        return Input::Unreadable;
+    match last {
+        Ok(0) => Input::Report(size),
+        Ok(_) => Input::TooLong,
+        Err(_) => Input::Unreadable,
     }
-    if last > 0 {
-        return Input::TooLong;
-    }
-    Input::Report(size)
 }
 
 // The line that says what the check answers to a report. Returns its length.

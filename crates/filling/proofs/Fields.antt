@@ -6,7 +6,7 @@ use native.Mathlib.Omega.{arith}
 use native.Mathlib.Nat.{add-sub_cancel_left, pow-succ', div-div-eq-div-mul, le_of_suc-le-suc, not-suc-le-zero}
 use native.Mathlib.Numerals.{add-one}
 use lib.ListN.{length, take, drop, set, length-append, length-take, length-drop, drop_of_length-le}
-use lib.Seq.{append_snoc, drop-length, paste, take-length, drop_at, drop-drop, length-take-le}
+use lib.Seq.{append_snoc, paste, take-length, drop_at, drop-drop, length-take-le}
 use borrow.Rule.Slice.PartMut.{put_mid}
 use Rattle.columns.specs.Columns.{put}
 use Rattle.columns.specs.Number.{point_in}
@@ -25,10 +25,6 @@ snoc_set xs l k b h = rw (drop_set l k b h) (sym (append_snoc xs b (drop (suc k)
 behind_set : (xs l bs : List ℕ) (k b : ℕ) → k < length l → drop (k + 1) l ≡ bs → xs ++ drop k (set l k b) ≡ xs ++ (b ∷ bs)
 behind_set xs l bs k b h e =
     ap (λ (r : List ℕ). xs ++ r) (drop_set l k b h ∙ ap (λ (n : ℕ). b ∷ drop n l) (sym (add-one k)) ∙ ap (λ (r : List ℕ). b ∷ r) e)
-
--- nothing is written yet
-pub filled_none : (xs l : List ℕ) → xs ++ drop (length l) l ≡ xs
-filled_none xs l = rw (drop-length l) (append-nil xs)
 
 -- a digit is written, and one column is left less
 pub digits_one : (l : List ℕ) (k v : ℕ) → k < length l → digits_of k (v / 10) ++ drop k (set l k (last_digit v)) ≡ digits_of (suc k) v ++ drop (suc k) l

@@ -1,5 +1,5 @@
 -- An equation in recorded units serves its quantity; what a match on its form tells; how large a figure is.
-use mathlib.Core.Path.{◌≡◌, refl, sym, subst, ap, ◌∙◌}
+use mathlib.Core.Path.{◌≡◌, sym, subst, ap, ◌∙◌}
 use mathlib.Core.Bool.{Bool, true, false}
 use Prim.Native.Nat.{ℕ, ◌*◌, ◌^◌, ◌≤◌, ◌<◌}
 use native.Mathlib.Nat.{mul-le-mul}
@@ -37,36 +37,24 @@ pub divisor_ends : (v z n m : ℕ) → v ≤ 1_999_999 → z ≤ 2001 → n ≤ 
 divisor_ends v z n m a b c e = rw e (omega (arith, mul-le-mul a (mul-le-mul b c)))
 
 -- the equation's numbers give its test and its rounded value
-pub meets_readings : (q : Quantity) (h : Hour) (f : Formula) (v : ℕ) → Reduces f (equation_of q h.readings) (unit_of q) → v ≡ figure_of q h.figures →
-    formula_meets f.form f v ≡ readings_meet q h
-meets_readings q h f v r e =
-    ap (λ (n : Form). formula_meets n f v) r.form
+pub meets_readings : (q : Quantity) (h : Hour) (f : Formula) (k : Form) (v : ℕ) → Reduces f (equation_of q h.readings) (unit_of q) → f.form ≡ k →
+    v ≡ figure_of q h.figures → formula_meets k f v ≡ readings_meet q h
+meets_readings q h f k v r e g =
+    ap (λ (n : Form). formula_meets n f v) (sym e ∙ r.form)
     ∙ reduced_meets f (equation_of q h.readings) (unit_of q) r v
-    ∙ ap (λ (n : ℕ). equation_meets (equation_of q h.readings) (span (unit_of q) n)) e
+    ∙ ap (λ (n : ℕ). equation_meets (equation_of q h.readings) (span (unit_of q) n)) g
 
-pub rounds : (q : Quantity) (r : Readings) (f : Formula) → ReadingsWithin r → Reduces f (equation_of q r) (unit_of q) →
-    formula_rounded f.form f ≡ rounded_value q r
+pub rounds : (q : Quantity) (r : Readings) (f : Formula) (k : Form) → ReadingsWithin r → Reduces f (equation_of q r) (unit_of q) → f.form ≡ k →
+    formula_rounded k f ≡ rounded_value q r
 unfolding rounded_value
-rounds q r f w d =
-    ap (λ (n : Form). formula_rounded n f) d.form
+rounds q r f k w d e =
+    ap (λ (n : Form). formula_rounded n f) (sym e ∙ d.form)
     ∙ reduced_value f (equation_of q r) (unit_of q) d (equation_sound q r w).right
 
 -- which test a figure is put to, and that it is exact
-pub gas_tested : (q : Quantity) (h : Hour) → q ≡ So2 → h.gas ≡ true → gas_meets h.figures ≡ passes_test q h
+pub heat_tested : (q : Quantity) (h : Hour) → by_heat q h ≡ true → gas_meets h.figures ≡ passes_test q h
 unfolding passes_test
-gas_tested q h e g = rw (e, g)
-
-pub no_gas : (q : Quantity) (h : Hour) → h.gas ≡ false → by_heat q h ≡ false
-no_gas Heat h g = refl
-no_gas So2 h g = g
-no_gas Nox h g = refl
-no_gas Co2 h g = refl
-
-pub not_so2 : (q : Quantity) (h : Hour) → (q ≡ So2 → ⊥) → by_heat q h ≡ false
-not_so2 Heat h n = refl
-not_so2 So2 h n = absurd (n refl)
-not_so2 Nox h n = refl
-not_so2 Co2 h n = refl
+heat_tested q h e = rw e
 
 pub equation_tested : (q : Quantity) (h : Hour) → by_heat q h ≡ false → readings_meet q h ≡ passes_test q h
 unfolding passes_test

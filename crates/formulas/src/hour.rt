@@ -1,6 +1,7 @@
 // One operating hour as it is recorded. Each number is a count of units.
 ghost use Rattle.std.specs.Prelude.{◌≡◌};
 ghost use Rattle.formulas.specs.Hour.{figure_of};
+ghost use Rattle.formulas.specs.Formulas.{by_heat};
 
 // Tenths of ppm (SO2, NOx) and of percent (CO2), thousands of scfh (flow), tenths of scf/mmBtu (fc, the F-factor Fc).
 #[derive(Clone, Copy)]
@@ -49,5 +50,14 @@ impl Figures {
             Quantity::Nox => self.nox,
             Quantity::Co2 => self.co2,
         }
+    }
+}
+
+impl Hour {
+    // Whether a figure is judged by the hour's heat: SO2 of a gas hour.
+    pub fn by_heat(self, q: Quantity) -> bool
+        ensures { result ≡ by_heat q self }
+    {
+        matches!(q, Quantity::So2) && self.gas
     }
 }

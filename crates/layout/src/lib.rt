@@ -121,7 +121,7 @@ struct Lead {
 }
 
 // A type's code, which is written, and its digits, which are compared; the length of its line without byte 10, where date and hour start (0 where it has
-// none), its run of lines, how many values it has, whether its lines may have GAS.
+// none), its run of lines, how many values it has, whether its lines may have GAS. The date stays a number: the definition of `date_column` has 0 for none.
 #[derive(Clone, Copy)]
 pub struct Row {
     pub code: u64,

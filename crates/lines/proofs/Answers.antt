@@ -27,7 +27,7 @@ use Rattle.lines.specs.LineFaults.{digits_in, period_on, FacilityLine, facility_
 use Rattle.lines.specs.LineFaults.{rising_fault, hour_on, hour_number, hour_in, dated_fault, hour_said, dated_line, so2_fault, hour_fault, hour_line}
 use Rattle.lines.specs.LineFaults.{time_in, operates, idle_fault, operating_fault, timed_fault, operation_fault, said_of, operation_of, operation_line}
 use Rattle.lines.specs.Beginning.{stamped_line, operating_at}
-use Rattle.lines.specs.declared.Period.{Period}
+use Rattle.calendar.specs.Calendar.{Period}
 use Rattle.lines.specs.declared.operation.OperationLine.{OperationLine}
 use Rattle.lines.specs.declared.operation.OperationLine.TheVariants.{Operating, Idle}
 use Rattle.lines.proofs.FaultLaws.{said_hour, said_fault, dated_shape}

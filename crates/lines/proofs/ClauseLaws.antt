@@ -36,7 +36,7 @@ use Rattle.lines.proofs.RightLaws.{right_blank}
 use Rattle.lines.specs.Clauses.{shape_clauses, facility_clauses, headed_clauses, value_clauses, values_clauses, Dates, hour_clauses, due_clauses}
 use Rattle.lines.specs.Clauses.{any_time, Positive, listed_clauses, of_line_checks}
 use Rattle.lines.specs.RightLine.{so2_reading, operating_time, heat_input, Reads, BlankIn}
-use Rattle.lines.specs.declared.Period.{Period}
+use Rattle.calendar.specs.Calendar.{Period}
 
 module _ (t : RecordType) (line : List ℕ) where
   shape_told : Told (shape_fault t line) (shape_clauses t line)

@@ -19,14 +19,15 @@ use Rattle.layout.proofs.TypeLaws.{digits_tell}
 use Rattle.layout.specs.declared.RecordType.{RecordType}
 use Rattle.layout.specs.declared.RecordType.TheVariants.{Facility, So2Concentration}
 use Rattle.layout.specs.declared.values.Value.{Value}
-use Rattle.stamp.specs.StampLaws.{stamp_inside, stamp_below}
+use Rattle.calendar.specs.CalendarLaws.{hours_in_quarter_lem}
+use Rattle.stamp.specs.StampLaws.{stamp_inside}
 use Rattle.exact.specs.Faults.{unless, or_zero, unless_zero}
 use Rattle.lines.specs.LineFaults.{FacilityLine}
 use Rattle.lines.specs.LineFaults.{type_is, shape_fault, stack_of, common_fault, field_fault, field_in, values_fault, digits_in, period_on}
 use Rattle.lines.specs.LineFaults.{facility_fault, facility_line, rising_fault, date_on, hour_on, dated_fault, hour_said, hour_fault, hour_number, hour_in, hour_line}
 use Rattle.lines.specs.LineFaults.{so2_fault, Due, date_fault, gas_fault, due_fault}
 use Rattle.lines.specs.FaultLaws.{ValuesFormed, ValuesRight, DueRight}
-use Rattle.lines.specs.declared.Period.{Period}
+use Rattle.calendar.specs.Calendar.{Period}
 use Rattle.std.specs.Prelude.{Ok as Of, Err as FaultyFacility}
 use Rattle.std.specs.Prelude.{Ok as OfHour, Err as FaultyHour}
 
@@ -131,14 +132,14 @@ module _ (facility : List ℕ) (period : Period) (t : RecordType) (from : ℕ) (
   pub dated_shape : shape_fault t line ≡ 0
   dated_shape = common_shape facility t line dated_parts.0
 
-  -- its hour is one of the quarter, and not below `from`
-  pub dated_rises : IsQuarter period.quarter → (from ≤ hour_in period t line) × (hour_in period t line < most_hours)
+  -- its hour is not below `from`
+  pub dated_from : from ≤ hour_in period t line
   unfolding rising_fault hour_number
-  dated_rises q = go (hour_on period t line) refl dated_parts.1
+  dated_from = go (hour_on period t line) dated_parts.1
     where
-      go : (h : QuarterHour) → hour_on period t line ≡ h → rising_fault from h ≡ 0 → (from ≤ hour_number h) × (hour_number h < most_hours)
-      go Outside k f = absurd (omega arith)
-      go (At h) k f = (leb-true from h (unless_zero (leb from h) 5 f), stamp_below period.year period.quarter q (date_on t line) h k)
+      go : (h : QuarterHour) → rising_fault from h ≡ 0 → from ≤ hour_number h
+      go Outside f = absurd (omega arith)
+      go (At h) f = leb-true from h (unless_zero (leb from h) 5 f)
 
   -- it is one that the quarter has
   pub dated_inside : hour_in period t line < hours_in_quarter period.year period.quarter
@@ -148,6 +149,10 @@ module _ (facility : List ℕ) (period : Period) (t : RecordType) (from : ℕ) (
       go : (h : QuarterHour) → hour_on period t line ≡ h → rising_fault from h ≡ 0 → hour_number h < hours_in_quarter period.year period.quarter
       go Outside k f = absurd (omega arith)
       go (At h) k f = stamp_inside period.year period.quarter (date_on t line) h k
+
+  -- it is below the hours of any quarter, and not below `from`
+  pub dated_rises : IsQuarter period.quarter → (from ≤ hour_in period t line) × (hour_in period t line < most_hours)
+  dated_rises q = (dated_from, omega (arith, dated_inside, hours_in_quarter_lem period.year period.quarter q))
 
 module _ (facility : List ℕ) (period : Period) (from : ℕ) (line : List ℕ) (e : hour_fault facility period from line ≡ 0) where
   hour_parts : (dated_fault facility period So2Concentration from line ≡ 0) × (so2_fault (field_in so2_ppm line) ≡ 0)
@@ -164,6 +169,9 @@ module _ (facility : List ℕ) (period : Period) (from : ℕ) (line : List ℕ) 
   pub hour_formed : ValuesFormed So2Concentration line
   hour_formed zero h = so2_formed (field_in so2_ppm line) hour_parts.1
   hour_formed (suc i) h = absurd (omega arith)
+
+  pub hour_from : from ≤ hour_in period So2Concentration line
+  hour_from = dated_from facility period So2Concentration from line hour_parts.0
 
   pub hour_rises : IsQuarter period.quarter → (from ≤ hour_in period So2Concentration line) × (hour_in period So2Concentration line < most_hours)
   hour_rises = dated_rises facility period So2Concentration from line hour_parts.0

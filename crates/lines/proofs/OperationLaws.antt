@@ -20,7 +20,7 @@ use Rattle.lines.specs.LineFaults.{shape_fault, field_fault, field_in, values_fa
 use Rattle.lines.specs.LineFaults.{time_in, operates, idle_fault, operating_fault, timed_fault, operation_fault, said_of, operation_line}
 use Rattle.lines.specs.FaultLaws.{ValuesFormed, DueRight}
 use Rattle.lines.proofs.FaultLaws.{shape_length, field_within, field_right, field_formed, dated_shape}
-use Rattle.lines.specs.declared.Period.{Period}
+use Rattle.calendar.specs.Calendar.{Period}
 use Rattle.lines.specs.declared.operation.OperationLine.TheVariants.{Operating, Idle}
 
 -- a time that is right and above 0.00 is that of an operating hour

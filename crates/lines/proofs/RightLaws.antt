@@ -41,7 +41,7 @@ use Rattle.lines.proofs.DateLaws.{date_says, says_date}
 use Rattle.lines.proofs.FaultLaws.{shape_type, shape_length, field_within, field_right, due_right, right_due}
 use Rattle.lines.proofs.OperationLaws.{operating_values, operating_date}
 use Rattle.lines.specs.RightLine.{operating_time, PaperRow, paper_row, Shaped, Headed, Reads, RightValue, BlankIn, RightFacility, RightDate, RightHour, RightDue, RightListed, Idles}
-use Rattle.lines.specs.declared.Period.{Period}
+use Rattle.calendar.specs.Calendar.{Period}
 
 -- the layout has the paper's rows
 

@@ -5,7 +5,7 @@ use Rattle.layout.specs.declared.RecordType.{RecordType}
 use Rattle.layout.specs.declared.RecordType.TheVariants.{Operation}
 use Rattle.lines.specs.LineFaults.{rising_fault, hour_on, hour_in, hour_said, said_of, OperationSaid}
 use Rattle.lines.specs.LineFaults.{HourLine}
-use Rattle.lines.specs.declared.Period.{Period}
+use Rattle.calendar.specs.Calendar.{Period}
 use Rattle.lines.specs.declared.operation.OperationLine.TheVariants.{Operating}
 
 -- so many printable bytes and byte 10

@@ -9,7 +9,7 @@ use Rattle.layout.specs.declared.RecordType.{RecordType}
 use Rattle.layout.specs.declared.RecordType.TheVariants.{Facility, So2Concentration, Operation, So2Mass}
 use Rattle.layout.specs.declared.values.Value.{Value}
 use Rattle.lines.specs.RightLine.{ranged, so2_reading, operating_time, heat_input, paper_row, Reads, BlankIn, RightDate}
-use Rattle.lines.specs.declared.Period.{Period}
+use Rattle.calendar.specs.Calendar.{Period}
 
 -- type, length and bytes
 abbrev pub shape_clauses : RecordType → List ℕ → List Clause

@@ -15,7 +15,7 @@ use Rattle.stamp.specs.Stamp.{stamp_hour}
 use Rattle.layout.specs.declared.RecordType.{RecordType}
 use Rattle.layout.specs.declared.RecordType.TheVariants.{Facility, So2Concentration, Operation}
 use Rattle.layout.specs.declared.values.Value.{Value}
-use Rattle.lines.specs.declared.Period.{Period}
+use Rattle.calendar.specs.Calendar.{Period}
 use Rattle.lines.specs.declared.operation.OperationLine.{OperationLine}
 use Rattle.lines.specs.declared.operation.OperationLine.TheVariants.{Operating, Idle}
 

@@ -12,7 +12,7 @@ use Rattle.layout.specs.declared.RecordType.TheVariants.{Facility, So2Concentrat
 use Rattle.layout.specs.declared.RecordType.TheVariants.{Operation, QuarterTotals, So2Mass, NoxRate, Co2Mass}
 use Rattle.layout.specs.declared.values.Value.{Value}
 use Rattle.stamp.specs.Stamp.{number_date}
-use Rattle.lines.specs.declared.Period.{Period}
+use Rattle.calendar.specs.Calendar.{Period}
 
 -- a value: so many columns from `start` on, with so many decimals; the range, in units of the last decimal, and the step of which it is a multiple
 abbrev pub stepped : (start width decimals least most step : ℕ) → Value

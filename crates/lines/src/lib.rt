@@ -8,7 +8,6 @@ mod picture;
 pub mod shape;
 
 ghost use Rattle.std.specs.Prelude.{◌≡◌, ◌≤◌, length};
-ghost use Rattle.calendar.specs.Calendar.{IsQuarter};
 ghost use Rattle.layout.specs.Layout.{length_of, date_column};
 ghost use Rattle.lines.specs.Lines.{first_line};
 ghost use Rattle.lines.specs.Beginning.{stamped_line};
@@ -16,15 +15,9 @@ ghost use Rattle.lines.specs.LineFaults.{shape_fault, facility_line, dated_line,
 ghost use Rattle.lines.specs.Pictured.{Known};
 ghost use Rattle.refusals.specs.Refusals.{fault_number, fault_in, told};
 
+use calendar::Period;
 use layout::{RecordType, Row, values};
 use refusals::Fault;
-
-// The year and the quarter that a report is of.
-#[derive(Clone, Copy)]
-pub struct Period {
-    pub year: u64,
-    pub quarter: u64,
-}
 
 // Line 100.
 #[tactic(auto, using(crate::proofs::Answers::facility_tests), unfolding(columns::specs::Columns::columns))]
@@ -44,20 +37,19 @@ pub fn facility_line(rest: &[u8]) -> Result<Period, Fault>
     if !values::within(values::QUARTER, quarter) {
         return Err(Fault::Period);
     }
-    Ok(Period { year, quarter })
+    Ok(Period::new(year, quarter))
 }
 
 // The hour of the quarter of a line that has no fault so far; it must be at least `from`.
 #[tactic(auto, using(crate::proofs::Shapes::line_length_lem, layout::specs::LayoutLaws::date_fits))]
 fn stamped_line(rest: &[u8], t: RecordType, period: Period, from: u64) -> Result<u64, Fault>
-    requires { (shape_fault t (first_line rest.now) ≡ 0) × IsQuarter period.quarter × (1 ≤ date_column t) }
+    requires { (shape_fault t (first_line rest.now) ≡ 0) × (1 ≤ date_column t) }
     ensures { told fault_number result ≡ stamped_line period t from (first_line rest.now) }
 {
     let hour = stamp::read_stamp(
         &rest[..layout::line_length(t)],
         layout::date_column(t),
-        period.year,
-        period.quarter,
+        period,
     );
     match hour {
         Some(at) if from <= at => Ok(at),
@@ -74,7 +66,7 @@ fn dated_line(
     period: Period,
     from: u64,
 ) -> Result<u64, Fault>
-    requires { (length_of RecordType.Facility ≤ length facility.now) × IsQuarter period.quarter × (1 ≤ date_column t) }
+    requires { (length_of RecordType.Facility ≤ length facility.now) × (1 ≤ date_column t) }
     ensures { told fault_number result ≡ dated_line facility.now period t from (first_line rest.now) }
 {
     faults::try_common(facility, rest, t)?;
@@ -83,7 +75,7 @@ fn dated_line(
 
 // A 200 line.
 pub fn hour_line(facility: &[u8], rest: &[u8], period: Period, from: u64) -> Result<u64, Fault>
-    requires { (length_of RecordType.Facility ≤ length facility.now) × IsQuarter period.quarter }
+    requires { length_of RecordType.Facility ≤ length facility.now }
     ensures { told fault_number result ≡ hour_line facility.now period from (first_line rest.now) }
 {
     let hour = dated_line(facility, rest, RecordType::So2Concentration, period, from)?;

@@ -1,6 +1,5 @@
 // A 300 line: an hour that operates, or is idle.
 ghost use Rattle.std.specs.Prelude.{◌≡◌, ◌≤◌, length};
-ghost use Rattle.calendar.specs.Calendar.{IsQuarter};
 ghost use Rattle.layout.specs.Layout.{length_of};
 ghost use Rattle.layout.specs.Pictures.{whole_picture};
 ghost use Rattle.lines.specs.Lines.{first_line};
@@ -8,7 +7,8 @@ ghost use Rattle.lines.specs.Beginning.{operating_at};
 ghost use Rattle.lines.specs.LineFaults.{shape_fault, idle_fault, operating_fault, timed_fault, operation_of, operation_line};
 ghost use Rattle.refusals.specs.Refusals.{fault_number, fault_in, told};
 
-use crate::{Period, faults, picture};
+use crate::{faults, picture};
+use calendar::Period;
 use columns::Field;
 use layout::{RecordType, values};
 use refusals::Fault;
@@ -62,7 +62,7 @@ fn timed_line(line: &[u8], date: &[u8], hour: u64) -> Result<OperationLine, Faul
 // A 300 line of an operating hour, of which its hour alone is left to try.
 #[tactic(auto, using(crate::proofs::Answers::operating_not, crate::proofs::Answers::operating_of))]
 fn operating_line(rest: &[u8], period: Period, from: u64) -> Result<OperationLine, Fault>
-    requires { (shape_fault RecordType.Operation (first_line rest.now) ≡ 0) × IsQuarter period.quarter }
+    requires { shape_fault RecordType.Operation (first_line rest.now) ≡ 0 }
     ensures { told fault_number result ≡ operating_at period from (first_line rest.now) }
 {
     let hour = crate::stamped_line(rest, RecordType::Operation, period, from)?;
@@ -81,7 +81,7 @@ pub fn operation_line(
     by_picture: bool,
     picture: &[u8],
 ) -> Result<OperationLine, Fault>
-    requires length_of_in_bounds { (length_of RecordType.Facility ≤ length facility.now) × IsQuarter period.quarter }
+    requires length_of_in_bounds { length_of RecordType.Facility ≤ length facility.now }
     requires picture_value { picture.now ≡ whole_picture RecordType.Operation }
     ensures { told fault_number result ≡ operation_line facility.now period from date.now (first_line rest.now) }
 {
@@ -100,7 +100,7 @@ fn try_operation(
     from: u64,
     date: &[u8],
 ) -> Result<OperationLine, Fault>
-    requires { (length_of RecordType.Facility ≤ length facility.now) × IsQuarter period.quarter }
+    requires { length_of RecordType.Facility ≤ length facility.now }
     ensures { told fault_number result ≡ operation_line facility.now period from date.now (first_line rest.now) }
 {
     let hour = crate::dated_line(facility, rest, RecordType::Operation, period, from)?;

@@ -62,7 +62,7 @@ pub fn adler(bytes: &[u8]) -> u64
     sums.b * 65536 + sums.a
 }
 
-// The same sum of words, each taken whole.
+// The same sum of words, each taken whole: a trait over bytes and words would be longer than this loop.
 #[tactic(auto, using(crate::proofs::Laws::adler_more, crate::proofs::Laws::adler_end))]
 pub fn words_adler(words: &[u32]) -> u64
     ensures { result ≡ adler_of 1 0 words.now }

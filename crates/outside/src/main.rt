@@ -210,6 +210,7 @@ fn run_case(out: Stdout, case: &[u8], buffer: &mut [u8], last: usize) -> Step
 fn run_cases(out: Stdout, data: &[u8], buffer: &mut [u8]) {
     let mut at = 0;
     let mut written = 0;
+    // Each case says how far the next one is.
     while at < data.len() {
         let step = run_case(out, &data[at..], buffer, written);
         at += step.taken;
@@ -243,6 +244,7 @@ fn read_data(file: &mut File, data: &mut [u8]) -> io::Result<usize>
     ensures { IfOk result (λ n. n ≤ length data.old) }
 {
     let mut size = 0;
+    // Each read says how far it came; there is no heap for `read_to_end`.
     while size < data.len() {
         let more = file.read(&mut data[size..])?;
         if more == 0 {

@@ -18,6 +18,7 @@ fn digit_count(value: u64) -> usize
 {
     let mut count = 1;
     let mut rest = value;
+    // Divisions are counted, and no places of a list.
     while 10 <= rest {
         rest = rest / 10;
         count += 1;
@@ -25,7 +26,8 @@ fn digit_count(value: u64) -> usize
     count
 }
 
-// A space and a number from a column on. Returns the column behind them.
+// A space and a number from a column on. Returns the column behind them. Not by `write!`: only `filling` makes bytes of numbers, so that the contract has
+// every byte of the lent line.
 fn print_number(line: &mut [u8], column: usize, value: u64) -> usize
     requires { NumberRoom column line.old }
     ensures { (result ≡ column + length (spaced value)) × (result ≤ column + 21) × (line.new ≡ put column (spaced value) line.old) }

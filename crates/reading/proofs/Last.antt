@@ -6,7 +6,7 @@ use mathlib.Core.List.{List}
 use lib.ListN.{length, drop}
 use Rattle.layout.specs.declared.Shape.{Shape}
 use Rattle.lines.specs.Lines.{lines}
-use Rattle.lines.specs.declared.Period.{Period}
+use Rattle.calendar.specs.Calendar.{Period}
 use Rattle.reading.specs.Reading.{stopped_at, runs_of, last_types, walk_due, walk_end, walk_last}
 use Rattle.reading.specs.Places.{facility_of, hour_lines_in}
 use Rattle.reading.specs.Passages.{PassesRuns, led}

@@ -10,16 +10,16 @@ use lib.Dec.{ltb}
 use lib.ListN.{length, drop, length-drop}
 use lib.Seq.{drop-drop}
 use borrow.Author.Tests.{lt-ltb, le-ltb}
-use Rattle.calendar.specs.Calendar.{most_hours, IsQuarter}
+use Rattle.calendar.specs.Calendar.{most_hours}
 use Rattle.columns.specs.Columns.{columns}
 use Rattle.layout.specs.Layout.{length_of}
 use Rattle.layout.specs.declared.RecordType.TheVariants.{Operation}
 use Rattle.lines.specs.Lines.{first_line, lines}
 use Rattle.lines.proofs.LineLaws.{lines_at_lem, line_part}
 use Rattle.lines.specs.LineFaults.{type_is, operation_line}
-use Rattle.lines.proofs.FaultLaws.{shape_length, dated_rises}
+use Rattle.lines.proofs.FaultLaws.{shape_length, dated_from, dated_inside}
 use Rattle.lines.proofs.OperationLaws.{Said, said_operating, said_idle, operation_dated, operation_shape, operating_left}
-use Rattle.lines.specs.declared.Period.{Period}
+use Rattle.calendar.specs.Calendar.{Period}
 use Rattle.lines.specs.LineFaults.{OperationSaid}
 use Rattle.lines.specs.declared.operation.OperationLine.TheVariants.{Operating, Idle}
 use Rattle.reading.specs.Reading.{stopped_at, After, end_operations, walk_operations, next_date}
@@ -29,7 +29,7 @@ use Rattle.reading.specs.declared.walk.Cursor.{Cursor}
 use Rattle.reading.specs.Passages.{Passage}
 use Rattle.reading.specs.Reading.{Reading}
 use Rattle.reading.proofs.Runs.{first_left, hour_lines_over}
-use Rattle.reading.proofs.Walking.{no_lines}
+use Rattle.reading.proofs.Walking.{no_lines, FewHours}
 
 module _ (file : List ℕ) (period : Period) (n : ℕ) (start : Cursor) where
   -- what the 300 lines come to from here, and from the first
@@ -131,14 +131,16 @@ module _ (file : List ℕ) (period : Period) (n : ℕ) (start : Cursor) where
             PassesOperations file period n start r
         listing_found number r e f = rw e (record { reads = λ after. told (Err number) f after; here = tt; few = tt })
 
-        module _ (hour : ℕ) (b : Bool) (s : Said (facility_of file) period from date here hour b) (quarter : IsQuarter period.quarter) where
+        module _ (hour : ℕ) (b : Bool) (s : Said (facility_of file) period from date here hour b) (few : FewHours period) where
           long : length here ≡ length_of Operation
           long = shape_length Operation here (operation_shape (facility_of file) period from date here s.right)
 
           pub listing_rises : (from ≤ hour) × (hour < most_hours)
           listing_rises =
-              let d = dated_rises (facility_of file) period Operation from here (operation_dated (facility_of file) period from date here s.right) quarter in
-              rw s.hour at d
+              let d = operation_dated (facility_of file) period from date here s.right in (
+                rw s.hour at (dated_from (facility_of file) period Operation from here d),
+                omega (arith, dated_inside (facility_of file) period Operation from here d, s.hour, few),
+              )
 
           pub listing_room : at + length_of Operation ≤ length file
           listing_room = omega (arith, long, line_part (drop at file), length-drop at file)
@@ -159,12 +161,12 @@ module _ (file : List ℕ) (period : Period) (n : ℕ) (start : Cursor) where
                 rw long at (f after);
           }
 
-        pub listing_idle : (hour : ℕ) → IsQuarter period.quarter →
+        pub listing_idle : (hour : ℕ) → FewHours period →
             operation_line (facility_of file) period from (next_date (drop k (hour_lines_in file n))) (first_line (drop at file)) ≡ Ok (Idle hour) →
             Listing (at + (length_of Operation + 1)) (line + 1) (hour + 1) k
         listing_idle hour q e = step hour false (said_idle (facility_of file) period from date here hour e) q k w.rank (told (Ok (Idle hour)) e)
 
-        pub listing_operating : (hour : ℕ) → IsQuarter period.quarter →
+        pub listing_operating : (hour : ℕ) → FewHours period →
             operation_line (facility_of file) period from (next_date (drop k (hour_lines_in file n))) (first_line (drop at file)) ≡ Ok (Operating hour) →
             Listing (at + (length_of Operation + 1)) (line + 1) (hour + 1) (k + 1)
         unfolding columns

@@ -7,19 +7,19 @@ use mathlib.Core.Bool.{true, false}
 use native.Mathlib.Omega.{arith}
 use native.Mathlib.Numerals.{add-one}
 use lib.ListN.{length, drop, length-drop}
-use Rattle.calendar.specs.Calendar.{most_hours, IsQuarter}
+use Rattle.calendar.specs.Calendar.{most_hours}
 use Rattle.layout.specs.Layout.{length_of}
 use Rattle.layout.specs.declared.RecordType.TheVariants.{Facility, So2Concentration}
 use Rattle.lines.specs.Lines.{first_line, lines}
 use Rattle.lines.proofs.LineLaws.{lines_at_lem, line_at, line_part}
 use Rattle.lines.specs.LineFaults.{type_is, hour_in, hour_fault, hour_line}
-use Rattle.lines.proofs.FaultLaws.{shape_length, hour_shape, hour_rises, hour_said_lem}
-use Rattle.lines.specs.declared.Period.{Period}
+use Rattle.lines.proofs.FaultLaws.{shape_length, hour_shape, hour_from, hour_inside, hour_said_lem}
+use Rattle.calendar.specs.Calendar.{Period}
 use Rattle.lines.specs.LineFaults.{HourLine}
 use Rattle.reading.specs.Reading.{stopped_at, walk_later, walk_hours}
 use Rattle.reading.specs.Places.{facility_of, hour_line_in, hour_lines_in, Counted, hour_start}
 use Rattle.reading.specs.Reading.{Reading}
-use Rattle.reading.proofs.Walking.{no_lines}
+use Rattle.reading.proofs.Walking.{no_lines, FewHours}
 
 -- what the lines behind n 200 lines come to
 abbrev pub later_whole : List ℕ → Period → ℕ → Reading
@@ -94,17 +94,21 @@ module _ (file : List ℕ) (period : Period) (n from at : ℕ) (w : Rising file 
         pub rising_room : at + length_of So2Concentration ≤ length file
         rising_room = omega (arith, long, line_part (drop at file), length-drop at file)
 
-        pub rising_below : IsQuarter period.quarter → (from ≤ hour) × (hour < most_hours)
-        rising_below q = let r = hour_rises (facility_of file) period from (first_line (drop at file)) said.0 q in rw said.1 at r
+        pub rising_below : FewHours period → (from ≤ hour) × (hour < most_hours)
+        rising_below few =
+            let l = first_line (drop at file) in (
+              rw said.1 at (hour_from (facility_of file) period from l said.0),
+              omega (arith, hour_inside (facility_of file) period from l said.0, said.1, few),
+            )
 
         -- the 200 line of rank n is where it is looked for later
         line_there : first_line (drop at file) ≡ hour_line_in file n
         line_there = line_at file at (length_of So2Concentration) long ∙ rw w.start
 
-        pub rising_next : IsQuarter period.quarter → Rising file period (n + 1) (hour + 1) (at + (length_of So2Concentration + 1))
+        pub rising_next : FewHours period → Rising file period (n + 1) (hour + 1) (at + (length_of So2Concentration + 1))
         unfolding hour_lines_in
-        rising_next q =
-            let b = rising_below q in
+        rising_next few =
+            let b = rising_below few in
             let s : 2 + n + 1 ≡ 2 + suc n = omega arith in
             record {
               start = omega (arith, w.start);

@@ -15,7 +15,7 @@ use Rattle.lines.specs.Lines.{first_line, lines, last}
 use Rattle.lines.proofs.LineLaws.{lines_at_lem, line_at, line_part}
 use Rattle.lines.specs.LineFaults.{period_on, facility_fault, facility_line}
 use Rattle.lines.proofs.FaultLaws.{shape_length, facility_shape, facility_quarter, facility_said}
-use Rattle.lines.specs.declared.Period.{Period}
+use Rattle.calendar.specs.Calendar.{Period}
 use Rattle.lines.specs.LineFaults.{FacilityLine}
 use Rattle.reading.specs.CleanLaws.{ended_walked}
 use Rattle.reading.specs.Reading.{stopped_at, walk_hours, walk, read_of}

@@ -5,6 +5,7 @@ use mathlib.Core.Path.{◌≡◌, refl, sym, ap, ◌∙◌}
 use mathlib.Core.List.{List, [], ◌∷◌, ◌++◌}
 use native.Mathlib.Omega.{arith}
 use lib.ListN.{length, take, drop, length-drop, drop_of_length-le}
+use Rattle.calendar.specs.Calendar.{Period, most_hours, hours_in_quarter}
 use Rattle.layout.specs.Layout.{length_of, order, type_at, count_of, shape}
 use Rattle.layout.specs.declared.RecordType.{RecordType}
 use Rattle.lines.specs.Lines.{first_line, lines}
@@ -23,6 +24,10 @@ use Rattle.reading.proofs.Runs.{run_one, run_end, runs_one}
 pub no_lines : (file : List ℕ) (at : ℕ) → length file ≤ at → lines (drop at file) ≡ []
 unfolding lines
 no_lines file at h = rw (drop_of_length-le file h)
+
+-- a period has no more hours than the longest quarter
+abbrev pub FewHours : Period → Type 0
+FewHours period = hours_in_quarter period.year period.quarter ≤ most_hours
 
 -- what a line's fault decides
 module _ (f g line : ℕ) (next : Reading) (e : f ≡ g) where

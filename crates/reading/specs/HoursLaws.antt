@@ -13,7 +13,7 @@ use Rattle.lines.specs.Lines.{lines, last}
 use Rattle.lines.specs.LineFaults.{hour_in}
 use Rattle.lines.proofs.FaultLaws.{hour_shape, hour_formed, hour_values_lem, hour_rises, hour_inside}
 use Rattle.lines.proofs.RightLaws.{right_hour}
-use Rattle.lines.specs.declared.Period.{Period}
+use Rattle.calendar.specs.Calendar.{Period}
 use Rattle.reading.specs.Places.{hour_start, hour_line_in, Rising}
 use Rattle.reading.specs.RightFile.{RightHours}
 use Rattle.reading.specs.CleanLaws.{RunRight, line_right, run_more}

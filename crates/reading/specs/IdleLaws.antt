@@ -20,7 +20,7 @@ use Rattle.lines.specs.LineFaults.{type_is, field_in, has_gas}
 use Rattle.lines.specs.RightLine.{Shaped, RightListed}
 use Rattle.lines.proofs.RightLaws.{right_type, RightTime, right_operation}
 use Rattle.lines.proofs.RightLaws.RightTime.{runs, rests}
-use Rattle.lines.specs.declared.Period.{Period}
+use Rattle.calendar.specs.Calendar.{Period}
 use Rattle.reading.specs.Recorded.{Line, lines_with, idle, record_of_type, records_of, record_at, value_on, hour_at, hour_count, hours_of, totals_in}
 use Rattle.reading.specs.RecordedLaws.{operation_idle, typed_idle}
 use Rattle.reading.specs.Idle.{without_idle, WithoutIdle}

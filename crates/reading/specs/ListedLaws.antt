@@ -19,7 +19,7 @@ use Rattle.lines.proofs.OperationLaws.{operation_dated, operation_shape, operati
 use Rattle.lines.specs.RightLine.{RightListed}
 use Rattle.lines.proofs.RightLaws.{RightTime, right_operation}
 use Rattle.lines.proofs.RightLaws.RightTime.{runs, rests}
-use Rattle.lines.specs.declared.Period.{Period}
+use Rattle.calendar.specs.Calendar.{Period}
 use Rattle.reading.specs.Reading.{next_date}
 use Rattle.reading.specs.Recorded.{idle}
 use Rattle.reading.specs.RecordedLaws.{operation_idle}

@@ -3,7 +3,7 @@ use Rattle.std.specs.Prelude.{ℕ, Result, ◌+◌, ◌≤◌, ◌≡◌, cond, 
 use Rattle.calendar.specs.Calendar.{most_hours}
 use Rattle.layout.specs.Layout.{order}
 use Rattle.lines.specs.Lines.{lines}
-use Rattle.lines.specs.declared.Period.{Period}
+use Rattle.calendar.specs.Calendar.{Period}
 use Rattle.reading.specs.Reading.{runs_of, After, walk_due, walk_operations}
 use Rattle.reading.specs.Places.{facility_of, hour_lines_in}
 use Rattle.reading.specs.declared.walk.Cursor.{Cursor}

@@ -6,7 +6,7 @@ use Rattle.layout.specs.declared.RecordType.TheVariants.{So2Concentration, Opera
 use Rattle.layout.specs.declared.Shape.{Shape}
 use Rattle.lines.specs.Lines.{lines, last}
 use Rattle.lines.specs.LineFaults.{type_is, facility_line, date_on, hour_line, Due, due_of, due_fault, operation_line}
-use Rattle.lines.specs.declared.Period.{Period}
+use Rattle.calendar.specs.Calendar.{Period}
 use Rattle.lines.specs.declared.operation.OperationLine.TheVariants.{Operating, Idle}
 use Rattle.reading.specs.declared.Report.{Report}
 use Rattle.refusals.specs.Refusals.{PaperRefusal}

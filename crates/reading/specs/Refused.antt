@@ -11,7 +11,7 @@ use Rattle.lines.specs.Lines.{lines, last}
 use Rattle.lines.specs.LineFaults.{Due, due_of}
 use Rattle.lines.specs.RightLine.{paper_row, RightFacility, RightHour, RightDue, RightListed, Operates, Idles}
 use Rattle.lines.specs.Clauses.{facility_clauses, hour_clauses, due_clauses, listed_clauses}
-use Rattle.lines.specs.declared.Period.{Period}
+use Rattle.calendar.specs.Calendar.{Period}
 
 -- right 200 lines, behind which an hour from `next` on may follow
 pub data HoursTo (facility : List ℕ) (p : Period) : List (List ℕ) → (next : ℕ) → Type 0 where

@@ -24,7 +24,7 @@ use Rattle.lines.proofs.RightLaws.{type_right, right_type, facility_right, hour_
 use Rattle.lines.proofs.RightLaws.RightTime.{runs, rests}
 use Rattle.lines.specs.Clauses.{facility_clauses, hour_clauses, due_clauses, listed_clauses, of_line_checks}
 use Rattle.lines.proofs.ClauseLaws.{facility_told, hour_told, due_told, listed_told, OfLines, values_numbers}
-use Rattle.lines.specs.declared.Period.{Period}
+use Rattle.calendar.specs.Calendar.{Period}
 use Rattle.lines.specs.LineFaults.{FacilityLine}
 use Rattle.lines.specs.LineFaults.{HourLine}
 use Rattle.lines.specs.LineFaults.{OperationSaid}

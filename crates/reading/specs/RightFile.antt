@@ -5,7 +5,7 @@ use Rattle.layout.specs.declared.RecordType.{RecordType}
 use Rattle.layout.specs.declared.RecordType.TheVariants.{NoxConcentration, Co2Concentration, VolumetricFlow, QuarterTotals, So2Mass, NoxRate, Co2Mass}
 use Rattle.lines.specs.Lines.{lines, last}
 use Rattle.lines.specs.RightLine.{RightFacility, RightHour, RightDue, RightListed, Operates, Idles}
-use Rattle.lines.specs.declared.Period.{Period}
+use Rattle.calendar.specs.Calendar.{Period}
 use Rattle.reading.specs.declared.Report.{Report}
 
 -- the 200 lines: of hours of the quarter, from this one on, each later than the one before

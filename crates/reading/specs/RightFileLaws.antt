@@ -19,7 +19,7 @@ use Rattle.lines.proofs.OperationLaws.{Said, said_operating, said_idle, operatin
 use Rattle.lines.specs.RightLine.{RightFacility, RightDue, RightListed}
 use Rattle.lines.proofs.RightLaws.{facility_right, hour_right, due_says, RightTime, operation_right}
 use Rattle.lines.proofs.RightLaws.RightTime.{runs, rests}
-use Rattle.lines.specs.declared.Period.{Period}
+use Rattle.calendar.specs.Calendar.{Period}
 use Rattle.lines.specs.LineFaults.{FacilityLine}
 use Rattle.lines.specs.LineFaults.{HourLine}
 use Rattle.lines.specs.LineFaults.{OperationSaid}

@@ -16,7 +16,7 @@ use Rattle.lines.specs.LineFaults.{type_is, has_gas, so2_blank, gas_fault, due_o
 use Rattle.lines.proofs.FaultLaws.{due_right}
 use Rattle.lines.specs.RightLine.{RightDue}
 use Rattle.lines.proofs.RightLaws.{right_type, says_due}
-use Rattle.lines.specs.declared.Period.{Period}
+use Rattle.calendar.specs.Calendar.{Period}
 use Rattle.reading.specs.Recorded.{Line, lines_with, record_at, hour_at, hour_count}
 use Rattle.reading.specs.RightFile.{RightHours, RightRun, RightOperations, RightFile}
 use Rattle.reading.specs.RightFile.RightOperations.{done, operating, idling}

@@ -20,7 +20,7 @@ use Rattle.lines.proofs.OperationLaws.{operation_said}
 use Rattle.lines.specs.RightLine.{Headed, RightFacility, RightListed}
 use Rattle.lines.proofs.RightLaws.{right_type, right_facility, right_hour, says_due, RightTime, right_operation}
 use Rattle.lines.proofs.RightLaws.RightTime.{runs, rests}
-use Rattle.lines.specs.declared.Period.{Period}
+use Rattle.calendar.specs.Calendar.{Period}
 use Rattle.lines.specs.declared.operation.OperationLine.TheVariants.{Operating, Idle}
 use Rattle.reading.specs.Reading.{stopped_at, first_types, last_types, hours_due, run_of, runs_of, After, walk_due, end_operations, next_date, walk_operations}
 use Rattle.reading.specs.Reading.{walk_end, walk_last, walk_listed, walk_later, walk_hours, walk}

@@ -7,8 +7,8 @@ ghost use Rattle.std.specs.Prelude.{◌≡◌};
 ghost use Rattle.reading.specs.Reading.{read_of};
 ghost use Rattle.refusals.specs.Refusals.{on_paper, told};
 
+use calendar::Period;
 use layout::Shape;
-use lines::Period;
 use refusals::{Fault, Refusal, at_line};
 
 // A report whose lines are right. Its operating hours are its 200 lines.

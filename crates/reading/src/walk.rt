@@ -1,6 +1,5 @@
 // The lines of a file in their order, each against the one that is due.
 ghost use Rattle.std.specs.Prelude.{◌≡◌, [], ◌+◌, ◌≤◌, ◌<◌, length, drop};
-ghost use Rattle.calendar.specs.Calendar.{IsQuarter};
 ghost use Rattle.layout.specs.Layout.{length_of, count_of, order, shape};
 ghost use Rattle.lines.specs.Lines.{lines};
 ghost use Rattle.reading.specs.Reading.{walk_last, walk_listed, walk_later, walk_hours, next_date};
@@ -9,8 +8,8 @@ ghost use Rattle.reading.specs.Passages.{end_passage, Here, PassesRuns, PassesOp
 ghost use Rattle.refusals.specs.Refusals.{fault_number, on_paper, told};
 
 use crate::Report;
+use calendar::Period;
 use layout::{RecordType, Shape};
-use lines::Period;
 use lines::operation::OperationLine;
 use refusals::{Fault, Refusal, at_line};
 
@@ -121,15 +120,18 @@ fn end_operations(
 
 // The 300 lines, of n operating hours and any that are idle.
 fn walk_operations(file: &[u8], period: Period, n: usize, start: Cursor) -> Result<Cursor, Refusal>
-    requires { Counted file.now n × Here file.now start × IsQuarter period.quarter }
+    requires { Counted file.now n × Here file.now start }
     ensures { PassesOperations file.now period n start (told on_paper result) }
 {
+    // The hour of each line is below this, so the next one does not overflow.
+    prove!(period.hours() <= calendar::MOST_HOURS);
     let facility = &file[..layout::FACILITY_LENGTH];
     let picture = layout::picture_of(RecordType::Operation);
     let mut at = start.at;
     let mut line = start.line;
     let mut from = 0;
     let mut rank = 0;
+    // No count of turns: each line is looked at in all that is left, and says how far the next one is.
     while at < file.len() {
         let rest = &file[at..];
         if !lines::shape::type_is(rest, RecordType::Operation) {
@@ -181,7 +183,7 @@ fn walk_last(file: &[u8], period: Period, s: Shape, start: Cursor) -> Result<Rep
 
 // The lines behind the last 220 line.
 fn walk_listed(file: &[u8], period: Period, n: usize, start: Cursor) -> Result<Report, Refusal>
-    requires { Counted file.now n × Here file.now start × IsQuarter period.quarter }
+    requires { Counted file.now n × Here file.now start }
     ensures { told on_paper result ≡ walk_listed (facility_of file.now) period start.line (hour_lines_in file.now n)
         (lines (drop start.at file.now)) }
 {
@@ -199,7 +201,7 @@ fn walk_listed(file: &[u8], period: Period, n: usize, start: Cursor) -> Result<R
 
 // The lines behind n 200 lines.
 fn walk_later(file: &[u8], period: Period, n: usize) -> Result<Report, Refusal>
-    requires { Counted file.now n × IsQuarter period.quarter }
+    requires { Counted file.now n }
     ensures { told on_paper result ≡ walk_later (facility_of file.now) period (2 + n) (hour_lines_in file.now n)
         (lines (drop (hour_start n) file.now)) }
 {
@@ -218,13 +220,16 @@ fn walk_later(file: &[u8], period: Period, n: usize) -> Result<Report, Refusal>
 
 // The lines behind the facility line: as many 200 lines as there are, and the others.
 pub fn walk_hours(file: &[u8], period: Period) -> Result<Report, Refusal>
-    requires { (length_of RecordType.Facility ≤ length file.now) × IsQuarter period.quarter }
+    requires { length_of RecordType.Facility ≤ length file.now }
     ensures { told on_paper result ≡ walk_hours (facility_of file.now) period 2 0 [] (lines (drop (hour_start 0) file.now)) }
 {
+    // The hour of each line is below this, so the next one does not overflow.
+    prove!(period.hours() <= calendar::MOST_HOURS);
     let facility = &file[..layout::FACILITY_LENGTH];
     let mut n = 0;
     let mut from = 0;
     let mut at = layout::FACILITY_BYTES;
+    // As in the walk over the 300 lines.
     while at < file.len() {
         let rest = &file[at..];
         if !lines::shape::type_is(rest, RecordType::So2Concentration) {

@@ -35,19 +35,6 @@ impl Line<'_> {
     }
 }
 
-// The line at a place of a type's run, from 0, in a file of a shape whose lines are right.
-#[inline(always)]
-fn line_at(file: &[u8], s: Shape, t: RecordType, p: usize) -> Line<'_>
-    requires { Standing file.now s × (p < count_of s t) }
-    ensures { (result.record_type ≡ t) × (result.text.now ≡ (line_at file.now s t p).text) }
-{
-    let from = layout::offset_of(s, t, p);
-    Line {
-        record_type: t,
-        text: &file[from..from + layout::line_length(t)],
-    }
-}
-
 // An operating hour among the 300 lines: the place of its line, from 0, and its time.
 #[derive(Clone, Copy)]
 pub struct ListedHour {
@@ -55,82 +42,104 @@ pub struct ListedHour {
     pub time: u64,
 }
 
-// The first operating hour from place p on, of a file of a shape whose lines are right, where one follows.
-pub fn operating_from(file: &[u8], s: Shape, p: usize) -> ListedHour
-    requires { Standing file.now s × (0 < length (operating_from file.now s p)) }
-    ensures { result ≡ listed_hour file.now s (operating_place file.now s p) }
-{
-    for place in p..s.operations {
-        let time = line_at(file, s, RecordType::Operation, place).value(0);
-        if time != 0 {
-            return ListedHour { place, time };
+// The records of a file of a shape whose lines are right.
+#[derive(Clone, Copy)]
+pub struct Records<'a> {
+    pub file: &'a [u8],
+    pub shape: Shape,
+    pub ghost standing: { Standing file.now shape },
+}
+
+impl<'a> Records<'a> {
+    // The line at a place of a type's run, from 0.
+    #[inline(always)]
+    fn line_at(self, t: RecordType, p: usize) -> Line<'a>
+        requires { p < count_of self.shape t }
+        ensures { (result.record_type ≡ t) × (result.text.now ≡ (line_at self.entry.file.now self.entry.shape t p).text) }
+    {
+        let from = layout::offset_of(self.shape, t, p);
+        Line {
+            record_type: t,
+            text: &self.file[from..from + layout::line_length(t)],
         }
     }
-    unreachable!()
-}
 
-// The place of the 300 line of operating hour k, from 0, of a file of a shape whose lines are right.
-fn operating_place(file: &[u8], s: Shape, k: usize) -> usize
-    requires { Standing file.now s × (k < s.hours) }
-    ensures { Stands file.now s RecordType.Operation k result }
-{
-    let mut from = 0;
-    for _ in 0..k {
-        from = operating_from(file, s, from).place + 1;
+    // The first operating hour from place p on, where one follows.
+    pub fn operating_from(self, p: usize) -> ListedHour
+        requires { 0 < length (operating_from self.file.now self.shape p) }
+        ensures { result ≡ listed_hour self.entry.file.now self.entry.shape (operating_place self.entry.file.now self.entry.shape p) }
+    {
+        for place in p..self.shape.operations {
+            let time = self.line_at(RecordType::Operation, place).value(0);
+            if time != 0 {
+                return ListedHour { place, time };
+            }
+        }
+        unreachable!()
     }
-    operating_from(file, s, from).place
-}
 
-// The place of the record of rank k, from 0, in its type's run: of the 300 lines some are no records, every other line is one.
-pub fn place_of(file: &[u8], s: Shape, t: RecordType, k: usize) -> usize
-    requires { Standing file.now s × (k < length (records_of file.now t)) }
-    ensures { Stands file.now s t k result }
-{
-    match layout::row_of(t).run {
-        Run::Once | Run::Hourly => k,
-        Run::Listed => operating_place(file, s, k),
+    // The place of the 300 line of operating hour k, from 0.
+    fn operating_place(self, k: usize) -> usize
+        requires { k < self.shape.hours }
+        ensures { Stands self.entry.file.now self.entry.shape RecordType.Operation k result }
+    {
+        let mut from = 0;
+        for _ in 0..k {
+            from = self.operating_from(from).place + 1;
+        }
+        self.operating_from(from).place
     }
-}
 
-// Operating hour k, from 0, of a file of a shape whose lines are right; `at` is its 300 line.
-pub fn hour(file: &[u8], s: Shape, k: usize, at: ListedHour) -> Hour
-    requires { Standing file.now s × (k < s.hours) × Stands file.now s RecordType.Operation k at.place
-        × (at ≡ listed_hour file.now s at.place) }
-    ensures { result ≡ hour_at file.now k }
-{
-    let mass = line_at(file, s, RecordType::So2Mass, k);
-    let rate = line_at(file, s, RecordType::NoxRate, k);
-    Hour {
-        time: at.time,
-        gas: lines::gas::has_gas(mass.text),
-        readings: Readings {
-            so2: line_at(file, s, RecordType::So2Concentration, k).value(0),
-            nox: line_at(file, s, RecordType::NoxConcentration, k).value(0),
-            co2: line_at(file, s, RecordType::Co2Concentration, k).value(0),
-            flow: values::thousands_of(line_at(file, s, RecordType::VolumetricFlow, k).value(0)),
-            fc: rate.value(0),
-        },
-        figures: Figures {
-            heat: line_at(file, s, RecordType::Operation, at.place).value(1),
-            so2: mass.value(0),
-            nox: rate.value(1),
-            co2: line_at(file, s, RecordType::Co2Mass, k).value(0),
-        },
+    // The place of the record of rank k, from 0, in its type's run: of the 300 lines some are no records, every other line is one.
+    pub fn place_of(self, t: RecordType, k: usize) -> usize
+        requires { k < length (records_of self.file.now t) }
+        ensures { Stands self.entry.file.now self.entry.shape t k result }
+    {
+        match layout::row_of(t).run {
+            Run::Once | Run::Hourly => k,
+            Run::Listed => self.operating_place(k),
+        }
     }
-}
 
-// The totals on line 301 of a file of a shape whose lines are right.
-pub fn totals(file: &[u8], s: Shape) -> Quarter
-    requires { Standing file.now s }
-    ensures { result ≡ totals_in file.now }
-{
-    let line = line_at(file, s, RecordType::QuarterTotals, 0);
-    Quarter {
-        hours: s.hours as u64,
-        so2: line.value(0),
-        co2: line.value(1),
-        heat: line.value(2),
-        nox: line.value(3),
-        nox_tons: line.value(4),
+    // Operating hour k, from 0; `at` is its 300 line.
+    pub fn hour(self, k: usize, at: ListedHour) -> Hour
+        requires { (k < self.shape.hours) × Stands self.file.now self.shape RecordType.Operation k at.place
+            × (at ≡ listed_hour self.file.now self.shape at.place) }
+        ensures { result ≡ hour_at self.entry.file.now k }
+    {
+        let mass = self.line_at(RecordType::So2Mass, k);
+        let rate = self.line_at(RecordType::NoxRate, k);
+        Hour {
+            time: at.time,
+            gas: lines::gas::has_gas(mass.text),
+            readings: Readings {
+                so2: self.line_at(RecordType::So2Concentration, k).value(0),
+                nox: self.line_at(RecordType::NoxConcentration, k).value(0),
+                co2: self.line_at(RecordType::Co2Concentration, k).value(0),
+                flow: values::thousands_of(self.line_at(RecordType::VolumetricFlow, k).value(0)),
+                fc: rate.value(0),
+            },
+            figures: Figures {
+                heat: self.line_at(RecordType::Operation, at.place).value(1),
+                so2: mass.value(0),
+                nox: rate.value(1),
+                co2: self.line_at(RecordType::Co2Mass, k).value(0),
+            },
+        }
+    }
+
+    // The totals on line 301.
+    pub fn totals(self) -> Quarter
+        ensures { result ≡ totals_in self.entry.file.now }
+    {
+        let line = self.line_at(RecordType::QuarterTotals, 0);
+        Quarter {
+            hours: self.shape.hours as u64,
+            so2: line.value(0),
+            co2: line.value(1),
+            heat: line.value(2),
+            nox: line.value(3),
+            nox_tons: line.value(4),
+        }
     }
 }

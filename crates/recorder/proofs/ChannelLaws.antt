@@ -1,5 +1,5 @@
 -- The four channels: what their units and columns have room for, and that a float of 2^52 or more lies beyond every range.
-use Rattle.std.specs.Prelude.{ℕ, ◌+◌, ◌*◌, ◌≤◌, ◌<◌, ◌^◌, ◌≡◌, refl, Bool, true, false, Float}
+use Rattle.std.specs.Prelude.{ℕ, ◌+◌, ◌*◌, ◌≤◌, ◌<◌, ◌^◌, ◌≡◌, refl, Bool, true, false, Some, Float}
 use Rattle.std.proofs.Common.{mul-pos, mul-le-mul, mul-le-mul_left, le_of_mul-le-mul_right, arith, lit≤, lit<, pow_pos, pow_mono}
 use Rattle.std.proofs.Math.Nat.{lt_of_mul-lt-mul_left, lt-div-mul-add}
 use Rattle.std.specs.Float.Ieee.Positive.{num, den, den_pos}
@@ -75,7 +75,7 @@ past_most Nox n h = omega arith
 past_most Co2 n h = omega arith
 past_most Flow n h = omega arith
 
-pub beyond : (c : Channel) (x : Float) (p : Parts) → PartsOf x p → float_scale ≤ p.exponent → in_range (column_of c) (column_number c x) ≡ false
+pub beyond : (c : Channel) (x : Float) (p : Parts) → PartsOf x (Some p) → float_scale ≤ p.exponent → in_range (column_of c) (column_number c x) ≡ false
 beyond c x p k h =
     let l : 2 ^ 52 * den x ≤ num x = num_least (num x) (den x) float_scale p.significand p.exponent (k.long (pos_scale h)) h k.exact in
     not_in_range (column_of c) (column_number c x) (past_most c (units_in (recording_unit c) x) (many_units (recording_unit c) x l))

@@ -2,14 +2,19 @@
 use Prim.Native.Nat.{ℕ, zero, suc}
 use Rattle.std.proofs.Math.Path.{◌≡◌, refl}
 use Rattle.std.proofs.Common.{sym, ap, ◌∙◌, inl, inr, ⊎_elim, arith}
-use Rattle.std.specs.Prelude.{true, false, ◌⊎◌, List, [], ◌∷◌, ◌++◌, Float, Ok, Err}
+use Rattle.std.specs.Prelude.{true, false, ◌⊎◌, List, [], ◌∷◌, ◌++◌, Float, Result, Ok, Err}
 use Rattle.exact.specs.Faults.{◌or_else◌, or_first, or_zero}
 use Rattle.exact.specs.Logic.{All}
 use Rattle.layout.specs.Values.{in_range}
-use Rattle.recorder.specs.Recording.{usable, channels, column_of, reading_of, column_number, float_fault, fault_of, first_fault, word_for, words_for, Recorded, recorded_of}
+use Rattle.recorder.specs.Recording.{usable, channels, kind_of, column_of, reading_of, column_number, float_fault, fault_of, first_fault}
+use Rattle.recorder.specs.Recording.{word_for, words_for, Recorded, recorded_of}
+use Rattle.recorder.specs.Parts.{FloatUnits, ReadingUnits}
+use Rattle.sheet.specs.Sheet.{word_of}
 use Rattle.refusals.specs.Refusals.{recorder_number}
 use Rattle.refusals.specs.declared.RecorderRefusal.{RecorderRefusal}
+use Rattle.refusals.specs.declared.RecorderRefusal.TheVariants as refusal
 use Rattle.refusals.proofs.Numbers.{recorder_positive}
+use Rattle.recorder.specs.declared.RecorderReading.TheVariants.{Measured, Substituted, Absent}
 use Rattle.recorder.specs.declared.RecorderHour.{RecorderHour}
 use Rattle.recorder.specs.declared.HourWords.{HourWords}
 use Rattle.recorder.specs.declared.Channel.{Channel}
@@ -28,7 +33,24 @@ module _ (c : Channel) (x : Float) where
   unfolding float_fault
   fault_none e i = rw (e, float_fault, i)
 
+-- a reading with a float is tried as its float is, and an absent one is not
+
+module _ (c : Channel) (x : Float) where
+  pub measured_tries : (r : Result ℕ RecorderRefusal) → FloatUnits c x r → ReadingUnits c (Measured x) r
+  measured_tries (Ok units) t = (t.0, t.1, ap (word_of (kind_of c)) t.2)
+  measured_tries (Err e) t = t
+
+  pub substituted_tries : (r : Result ℕ RecorderRefusal) → FloatUnits c x r → ReadingUnits c (Substituted x) r
+  substituted_tries (Ok units) t = (t.0, t.1, ap (word_of (kind_of c)) t.2)
+  substituted_tries (Err e) t = t
+
+pub absent_tries : (c : Channel) → ReadingUnits c Absent (Err refusal.Absent)
+absent_tries c = refl
+
 -- the first fault of an hour
+
+pub some_number : (e : RecorderRefusal) → recorder_number e ≡ 0 → ⊥
+some_number e z = omega (arith, recorder_positive e)
 
 split_first : (a b n : ℕ) → a or_else b ≡ n → (a ≡ n) ⊎ ((a ≡ 0) × (b ≡ n))
 split_first zero b n e = inr (refl, e)
@@ -40,37 +62,30 @@ module _ (h : RecorderHour) where
   refused_by zero e z = absurd (z refl)
   refused_by (suc n) e z = rw (e, recorded_of)
 
-  module _ (e : RecorderRefusal) where
-    abbrev n : ℕ
-    n = recorder_number e
-
-    some : n ≡ 0 → ⊥
-    some z = omega (arith, recorder_positive e)
-
+  module _ (n : ℕ) (some : n ≡ 0 → ⊥) where
     pub so2_refuses : n ≡ fault_of So2 h.so2 → Err n ≡ recorded_of h
     so2_refuses e = refused_by n (rw (← e) (or_first n _ some)) some
 
-    pub nox_refuses : fault_of So2 h.so2 ≡ 0 → n ≡ fault_of Nox h.nox → Err n ≡ recorded_of h
-    nox_refuses a e = refused_by n (rw (a, ← e) (or_first n _ some)) some
+    pub nox_refuses : 0 ≡ fault_of So2 h.so2 → n ≡ fault_of Nox h.nox → Err n ≡ recorded_of h
+    nox_refuses a e = refused_by n (rw (← a, ← e) (or_first n _ some)) some
 
-    pub co2_refuses : fault_of So2 h.so2 ≡ 0 → fault_of Nox h.nox ≡ 0 → n ≡ fault_of Co2 h.co2 → Err n ≡ recorded_of h
-    co2_refuses a b e = refused_by n (rw (a, b, ← e) (or_first n _ some)) some
+    pub co2_refuses : 0 ≡ fault_of So2 h.so2 → 0 ≡ fault_of Nox h.nox → n ≡ fault_of Co2 h.co2 → Err n ≡ recorded_of h
+    co2_refuses a b e = refused_by n (rw (← a, ← b, ← e) (or_first n _ some)) some
 
-    pub flow_refuses : fault_of So2 h.so2 ≡ 0 → fault_of Nox h.nox ≡ 0 → fault_of Co2 h.co2 ≡ 0 → n ≡ fault_of Flow h.flow → Err n ≡ recorded_of h
-    flow_refuses a b d e = refused_by n (rw (a, b, d, ← e) (or_first n 0 some)) some
+    pub flow_refuses : 0 ≡ fault_of So2 h.so2 → 0 ≡ fault_of Nox h.nox → 0 ≡ fault_of Co2 h.co2 → n ≡ fault_of Flow h.flow →
+        Err n ≡ recorded_of h
+    flow_refuses a b d e = refused_by n (rw (← a, ← b, ← d, ← e) (or_first n 0 some)) some
 
-  all_taken : fault_of So2 h.so2 ≡ 0 → fault_of Nox h.nox ≡ 0 → fault_of Co2 h.co2 ≡ 0 → fault_of Flow h.flow ≡ 0 →
+  pub all_taken : 0 ≡ fault_of So2 h.so2 → 0 ≡ fault_of Nox h.nox → 0 ≡ fault_of Co2 h.co2 → 0 ≡ fault_of Flow h.flow →
       Ok (words_for h) ≡ recorded_of h
   unfolding recorded_of
-  all_taken a b d e = let z : first_fault h channels ≡ 0 = rw (a, b, d, e) in rw (z, recorded_of)
+  all_taken a b d e = let z : first_fault h channels ≡ 0 = rw (← a, ← b, ← d, ← e) in rw (z, recorded_of)
 
   -- the words one by one
-  pub words_made : {so2 nox co2 flow substituted : ℕ} →
-      (fault_of So2 h.so2 ≡ 0) × (so2 ≡ word_for So2 h.so2) → (fault_of Nox h.nox ≡ 0) × (nox ≡ word_for Nox h.nox) →
-      (fault_of Co2 h.co2 ≡ 0) × (co2 ≡ word_for Co2 h.co2) → (fault_of Flow h.flow ≡ 0) × (flow ≡ word_for Flow h.flow) →
-      substituted ≡ (words_for h).substituted →
+  pub words_made : {so2 nox co2 flow substituted : ℕ} → so2 ≡ word_for So2 h.so2 → nox ≡ word_for Nox h.nox → co2 ≡ word_for Co2 h.co2 →
+      flow ≡ word_for Flow h.flow → substituted ≡ (words_for h).substituted → Ok (words_for h) ≡ recorded_of h →
       Ok (record { so2 = so2; nox = nox; co2 = co2; flow = flow; substituted = substituted }) ≡ recorded_of h
-  words_made a b d e n = rw (a.1, b.1, d.1, e.1, n) (all_taken a.0 b.0 d.0 e.0)
+  words_made a b d e n t = rw (a, b, d, e, n) t
 
   -- what an answer tells of the faults
 

@@ -1,19 +1,19 @@
 -- A float taken apart, its channel's row and the units counted: what the code then decides.
-use Rattle.std.specs.Prelude.{◌≡◌, ℕ, ◌*◌, ◌≤◌, ◌<◌, ◌^◌, true, false, Float}
+use Rattle.std.specs.Prelude.{◌≡◌, ℕ, ◌*◌, ◌≤◌, ◌<◌, ◌^◌, true, false, Some, Float}
 use Rattle.std.proofs.Common.{sym, ap, ◌∙◌, pow_pos}
 use Rattle.layout.specs.Values.{in_range}
 use Rattle.layout.specs.LayoutLaws.{in_range_true}
 use Rattle.sheet.specs.Sheet.{value_size}
 use Rattle.recorder.specs.Recording.{units_in, column_of, recording_unit, column_number, float_fault}
-use Rattle.recorder.specs.Parts.{float_scale, PartsOf, parts_count, UnitRoom, channel_row}
+use Rattle.recorder.specs.Parts.{float_scale, PartsOf, parts_count, channel_row}
 use Rattle.recorder.specs.declared.Parts.{Parts}
 use Rattle.recorder.specs.declared.ChannelRow.{ChannelRow}
 use Rattle.recorder.specs.declared.Channel.{Channel}
 use Rattle.recorder.proofs.CountLaws.{count_exact}
-use Rattle.recorder.proofs.ChannelLaws.{row_room, number_room, most_held, beyond}
+use Rattle.recorder.proofs.ChannelLaws.{most_held, beyond}
 use Rattle.recorder.proofs.RecorderLaws.{fault_46, fault_none}
 
-module _ (c : Channel) (x : Float) (p : Parts) (k : PartsOf x p) where
+module _ (c : Channel) (x : Float) (p : Parts) (k : PartsOf x (Some p)) where
   pub far_outside : float_scale ≤ p.exponent → 46 ≡ float_fault c x
   far_outside h = fault_46 c x k.is_usable (beyond c x p k h)
 
@@ -24,20 +24,11 @@ module _ (c : Channel) (x : Float) (p : Parts) (k : PartsOf x p) where
     units_are : units ≡ units_in (recording_unit c) x
     units_are = n.0 ∙ ap (λ (w : ChannelRow). parts_count p w.unit) r ∙ counted
 
-    pub number_fits : row.column.step * units < 2 ^ 64
-    number_fits = rw r (number_room c units (rw r at n.1))
-
-    same_number : row.column.step * units ≡ column_number c x
-    same_number = rw (r, units_are)
-
     pub units_outside : in_range row.column (row.column.step * units) ≡ false → 46 ≡ float_fault c x
     units_outside e = fault_46 c x k.is_usable (rw (r, units_are) at e)
 
     pub units_inside : in_range row.column (row.column.step * units) ≡ true →
-        (float_fault c x ≡ 0) × (units < value_size) × (units ≡ units_in (recording_unit c) x)
+        (0 ≡ float_fault c x) × (units < value_size) × (units ≡ units_in (recording_unit c) x)
     units_inside e =
         let i : in_range (column_of c) (column_number c x) ≡ true = rw (r, units_are) at e in
-        (sym (fault_none c x k.is_usable i), rw units_are (most_held c _ (in_range_true (column_of c) (column_number c x) i).1), units_are)
-
-pub room_in_row : (c : Channel) (row : ChannelRow) → row ≡ channel_row c → UnitRoom row.unit
-room_in_row c row r = rw r (row_room c)
+        (fault_none c x k.is_usable i, rw units_are (most_held c _ (in_range_true (column_of c) (column_number c x) i).1), units_are)

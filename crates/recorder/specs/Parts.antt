@@ -1,5 +1,6 @@
 -- What each step from a float to a word is to give: the float's parts, its count of units, the reading tried.
-use Rattle.std.specs.Prelude.{ℕ, ◌*◌, ◌≤◌, ◌<◌, ◌^◌, ◌≡◌, true, Float, Result, Ok, Err}
+use Rattle.std.specs.Prelude.{ℕ, zero, suc, ◌+◌, ◌*◌, ◌≤◌, ◌<◌, ◌^◌, ◌≡◌, Bool, true, false, not, ◌&&◌, ◌||◌, cond, eqb, Float}
+use Rattle.std.specs.Prelude.{Option, None, Some, Result, Ok, Err}
 use Rattle.std.specs.Float.{binary64}
 use Rattle.std.specs.Float.Ieee.{low}
 use Rattle.std.specs.Float.Ieee.Positive.{num, den}
@@ -19,12 +20,26 @@ use Rattle.recorder.specs.declared.ChannelRow.{ChannelRow}
 abbrev pub float_scale : ℕ
 float_scale = low binary64
 
+-- a significand and an exponent, where they may be a reading's
+abbrev pub parts : (may : Bool) → (significand exponent : ℕ) → Option Parts
+parts may significand exponent = cond may (Some (record { significand = significand; exponent = exponent })) None
+
+-- the parts that a sign, an exponent field and the digits below it make. Field 0 has no leading one and counts as field 1; field 2047 has no value.
+abbrev pub parts_in : (negative : Bool) → (field digits : ℕ) → Option Parts
+parts_in negative zero digits = parts (not negative || eqb digits 0) digits 0
+parts_in negative (suc exponent) digits = parts (not negative && not (eqb (suc exponent) 2047)) (2 ^ 52 + digits) exponent
+
 -- a usable float's value is significand × 2^exponent / 2^1074; above the smallest exponent the significand has all its 53 digits
-pub record PartsOf (x : Float) (p : Parts) : Type 0 where
+pub record UsableParts (x : Float) (p : Parts) : Type 0 where
   pub is_usable : usable x ≡ true
   pub short : p.significand < 2 ^ 53
   pub long : 0 < p.exponent → 2 ^ 52 ≤ p.significand
   pub exact : num x * 2 ^ float_scale ≡ p.significand * 2 ^ p.exponent * den x
+
+-- what a float's parts are to it: one that is not usable has none
+abbrev pub PartsOf : Float → Option Parts → Type 0
+PartsOf x None = usable x ≡ false
+PartsOf x (Some p) = UsableParts x p
 
 -- that value over a unit, rounded half up
 abbrev pub parts_count : Parts → RecordingUnit → ℕ
@@ -52,9 +67,9 @@ channel_row c = record { column = column_of c; unit = record { num = (recording_
 -- a float tried, and a reading: its units, or why there are none
 
 abbrev pub FloatUnits : Channel → Float → Result ℕ RecorderRefusal → Type 0
-FloatUnits c x (Ok units) = (float_fault c x ≡ 0) × (units < value_size) × (units ≡ units_in (recording_unit c) x)
+FloatUnits c x (Ok units) = (0 ≡ float_fault c x) × (units < value_size) × (units ≡ units_in (recording_unit c) x)
 FloatUnits c x (Err e) = recorder_number e ≡ float_fault c x
 
 abbrev pub ReadingUnits : Channel → RecorderReading → Result ℕ RecorderRefusal → Type 0
-ReadingUnits c reading (Ok units) = (fault_of c reading ≡ 0) × (units < value_size) × (word_of (kind_of c) units ≡ word_for c reading)
+ReadingUnits c reading (Ok units) = (0 ≡ fault_of c reading) × (units < value_size) × (word_of (kind_of c) units ≡ word_for c reading)
 ReadingUnits c reading (Err e) = recorder_number e ≡ fault_of c reading

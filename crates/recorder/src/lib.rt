@@ -1,9 +1,9 @@
 // An hour as a recorder hands it over, made into words of the sheet: each reading rounded half up from the exact value of its float.
 #![tactic(auto)]
 
-ghost use Rattle.std.specs.Prelude.{◌≡◌, ◌*◌, ◌≤◌, ◌<◌, ◌^◌, false, MatchOption};
+ghost use Rattle.std.specs.Prelude.{◌≡◌, ◌*◌, ◌≤◌, ◌<◌, ◌^◌};
 ghost use Rattle.refusals.specs.Refusals.{told, recorder_number};
-ghost use Rattle.recorder.specs.Recording.{usable, substituted_in, recorded_of, recorder_numbers};
+ghost use Rattle.recorder.specs.Recording.{substituted_in, recorded_of, recorder_numbers};
 ghost use Rattle.recorder.specs.Promise.{RecorderPromise};
 ghost use Rattle.recorder.specs.Parts.{PartsOf, float_scale, parts_count, UnitRoom, channel_row, FloatUnits, ReadingUnits};
 
@@ -95,7 +95,7 @@ struct ChannelRow {
 
 // A float taken apart by its bits, unless it cannot be a reading. Those of a NaN say nothing, so it is told before they are asked for.
 fn parts_of(x: f64) -> Option<Parts>
-    ensures { MatchOption result (usable x ≡ false) (PartsOf x) }
+    ensures { PartsOf x result }
 {
     if x != x {
         return None;

@@ -2,14 +2,14 @@
 #![tactic(auto)]
 
 ghost use Rattle.std.specs.Prelude.{◌≡◌, ◌^◌, ◌<◌};
-ghost use Rattle.calendar.specs.Calendar.{IsQuarter, hours_in_quarter, TwoDigits};
+ghost use Rattle.calendar.specs.Calendar.{hours_in_quarter, TwoDigits};
 ghost use Rattle.columns.specs.Columns.{Inside, columns};
 ghost use Rattle.columns.specs.Number.{digits_only};
 ghost use Rattle.layout.specs.Layout.{date_width};
 ghost use Rattle.stamp.specs.Stamp.{stamp_hour, date_number, stamp_number};
 ghost use Rattle.stamp.specs.Pairs.{pair_width, pair_field};
 
-use calendar::Date;
+use calendar::{Date, Period};
 
 // YY, MM, DD and HH have so many columns each.
 const PAIR_WIDTH: usize = 2;
@@ -43,10 +43,9 @@ fn two_digits(line: &[u8], start: usize) -> u64
 }
 
 // The hour of the quarter on a line, with its first column.
-pub fn read_stamp(line: &[u8], start: usize, year: u64, quarter: u64) -> Option<u64>
-    requires inside { Inside start date_width line.now }
-    requires quarter { IsQuarter quarter }
-    ensures { result ≡ stamp_hour year quarter (columns start date_width line.now) }
+pub fn read_stamp(line: &[u8], start: usize, period: Period) -> Option<u64>
+    requires { Inside start date_width line.now }
+    ensures { result ≡ stamp_hour period.year period.quarter (columns start date_width line.now) }
 {
     let month_start = start + PAIR_WIDTH;
     let day_start = month_start + PAIR_WIDTH;
@@ -57,10 +56,10 @@ pub fn read_stamp(line: &[u8], start: usize, year: u64, quarter: u64) -> Option<
         day: two_digits(line, day_start),
         hour: two_digits(line, hour_start),
     };
-    if year_digits != year % 100 {
+    if year_digits != period.year % 100 {
         return None;
     }
-    calendar::hour_of_quarter(year, quarter, date)
+    period.hour_of(date)
 }
 
 // The number that the eight digits of a date are.
@@ -72,9 +71,9 @@ fn date_number(year: u64, date: Date) -> u64
 }
 
 // The number that the eight digits of an hour of the quarter are.
-pub fn stamp_number(year: u64, quarter: u64, hour: u64) -> u64
-    requires { IsQuarter quarter × (hour < hours_in_quarter year quarter) }
-    ensures { result ≡ stamp_number year quarter hour }
+pub fn stamp_number(period: Period, hour: u64) -> u64
+    requires { hour < hours_in_quarter period.year period.quarter }
+    ensures { result ≡ stamp_number period.year period.quarter hour }
 {
-    date_number(year, calendar::date_of_hour(year, quarter, hour))
+    date_number(period.year, period.date_of(hour))
 }

@@ -2,8 +2,8 @@
 use mathlib.Core.Path.{◌≡◌, refl, ap, ap₂, sym, ◌∙◌}
 use native.Mathlib.Decide.{dec_lt}
 use Rattle.std.proofs.Common.{◌≢◌, get_or-set_other, get_or-set_same, set, length-set}
-use mathlib.Core.List.{List, [], ◌∷◌, map}
-use Prim.Native.Nat.{ℕ, zero, suc, ◌+◌, ◌*◌, ◌≤◌, ◌<◌}
+use mathlib.Core.List.{List, [], ◌∷◌}
+use Prim.Native.Nat.{ℕ, suc, ◌+◌, ◌*◌, ◌≤◌, ◌<◌}
 use native.Mathlib.Nat.{mul-le-mul_right}
 use native.Mathlib.Omega.{arith}
 use lib.Dec.{lit<}
@@ -15,7 +15,7 @@ use Rattle.exact.specs.Rounding.{recorded, nearest, half_up}
 use Rattle.exact.proofs.RoundingLaws.{nearest_reduced}
 use Rattle.exact.specs.Sums.{hundredths}
 use Rattle.formulas.specs.Hour.{tenth, thousandth}
-use Rattle.totals.specs.Totals.{Share, shares, share_of, no_totals, added, with_hour, most_share, most_sum, ShareRoom, Room}
+use Rattle.totals.specs.Totals.{shares, share_of, added, with_hour, most_share, most_sum, ShareRoom, Room}
 use Rattle.totals.specs.Totals.{mean_of, pounds_per_ton, millionths, quarter_of}
 use Rattle.formulas.specs.declared.hour.Figures.{Figures}
 use Rattle.totals.specs.declared.Totals.{Totals}
@@ -73,27 +73,6 @@ grown_room t share sums i g r s h = record {
     go : (k : ℕ) → Dec (k < i) → get_or sums k 0 ≤ (t.hours + 1) * most_share
     go k (yes m) = omega (arith, g.done k m, r.each k, s.each k)
     go k (no m) = omega (arith, g.left k (omega arith), r.each k)
-
--- what is true of every number of a list is true at every place
-abbrev pub AllUnder : ℕ → List ℕ → Type 0
-AllUnder most [] = Unit {0}
-AllUnder most (x ∷ xs) = (x ≤ most) × AllUnder most xs
-
-under_at : (most : ℕ) (xs : List ℕ) → AllUnder most xs → (i : ℕ) → get_or xs i 0 ≤ most
-under_at most [] h i = omega arith
-under_at most (x ∷ xs) h zero = h.0
-under_at most (x ∷ xs) h (suc i) = under_at most xs h.1 i
-
-pub share_room : {xs : List ℕ} → length xs ≡ length shares → AllUnder most_share xs → ShareRoom xs
-share_room {xs} e h = record { count = e; each = under_at most_share xs h }
-
-pub none_room : Room no_totals
-none_room = record { count = refl; hours = omega arith; each = λ i. omega (arith, none shares i) }
-  where
-    none : (ss : List Share) (i : ℕ) → get_or (map (λ (s : Share). 0) ss) i 0 ≤ 0
-    none [] i = omega arith
-    none (s ∷ ss) zero = omega arith
-    none (s ∷ ss) (suc i) = none ss i
 
 -- a sum of a quarter is at most 2,208 times the most of an hour
 pub sum_bound : (t : Totals) (i : ℕ) → Room t → get_or t.sums i 0 ≤ most_sum

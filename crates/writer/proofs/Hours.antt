@@ -3,8 +3,6 @@ use Prim.Native.Nat.{ℕ, ◌+◌, ◌-◌, ◌≤◌, ◌<◌}
 use mathlib.Core.Path.{◌≡◌, sym, ap, ◌∙◌}
 use mathlib.Core.List.{List}
 use native.Mathlib.Numerals.{add-one}
-use native.Mathlib.Omega.{arith}
-use lib.ListN.{length}
 use Rattle.exact.specs.Logic.{ranked, ranked_next, ranked_end}
 use Rattle.columns.specs.Written.{digits_of}
 use Rattle.layout.specs.Layout.{date_width, order, hourly}
@@ -19,9 +17,7 @@ use Rattle.layout.specs.declared.Shape.{Shape}
 use Rattle.sheet.proofs.SheetLaws.{sheet_hours_whole}
 use Rattle.sheet.specs.Sheet.{sheet_hour, shape_of, sheet_hours}
 use Rattle.writer.specs.Recorded.{recorded_hour, recorded_hours, report_hours}
-use Rattle.records.specs.Room.{HourFits}
 use Rattle.writer.specs.HourLines.{hour_lines, hours_lines}
-use Rattle.writer.specs.Writable.{Fits}
 
 -- the running totals
 module _ (sheet : List ℕ) (n k : ℕ) (totals : Totals) where
@@ -90,14 +86,6 @@ module _ (year quarter : ℕ) (name sheet before : List ℕ) (s : Shape) (shaped
           ∙ p.lines
           ∙ ap (λ (s : Shape). hours_lines year quarter name s 0 (report_hours (sheet_hours sheet)) before) shaped,
     )
-
--- a buffer of the same length has room as well
-pub still_fits : {year quarter : ℕ} {name sheet buffer buffer' : List ℕ} → Fits year quarter name sheet buffer → length buffer' ≡ length buffer
-    → Fits year quarter name sheet buffer'
-still_fits f e = record { writable = f.writable; named = f.named; room = omega (arith, f.room) }
-
-pub hour_still_fits : {s : Shape} {k : ℕ} {name buffer buffer' : List ℕ} → HourFits s k name buffer → length buffer' ≡ length buffer → HourFits s k name buffer'
-hour_still_fits f e = record { rank = f.rank; listed = f.listed; held = f.held; named = f.named; room = omega (arith, f.room) }
 
 -- an hour's lines, dated and recorded
 pub as_lines : (name : List ℕ) (s : Shape) (k year quarter : ℕ) (buffer : List ℕ) {date : ℕ} {h h' : SheetHour} {r : Hour}

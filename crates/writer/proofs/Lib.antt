@@ -3,7 +3,6 @@ pub mod FirstRefusal
 pub mod Hours
 pub mod Puts
 pub mod HourLines
-pub mod LineSteps
 pub mod Answer
 pub mod Examples
 pub mod LineLaws

@@ -5,6 +5,7 @@ ghost use Rattle.sheet.specs.Sheet.{sheet_hour_count};
 ghost use Rattle.writer.specs.Refusals.{figures_hold, refusal_of};
 ghost use Rattle.writer.specs.OnePass.{hour_refusal, first_tried, refusal_from};
 
+use calendar::Period;
 use formulas::hour::Figures;
 use layout::values;
 use refusals::WriteRefusal;
@@ -78,7 +79,7 @@ pub fn try_sheet(
     if !sheet::heading_holds(name, year, quarter) || sheet.len() % sheet::HOUR_WORDS != 0 {
         return Err(WriteRefusal::Sheet);
     }
-    try_hours(sheet, calendar::hours_in_quarter(year, quarter))?;
+    try_hours(sheet, Period::new(year, quarter).hours())?;
     if room < layout::report_length(sheet::shape_of(sheet)) {
         return Err(WriteRefusal::Buffer);
     }

@@ -12,6 +12,7 @@ ghost use Rattle.writer.specs.Writable.{Fits};
 ghost use Rattle.writer.specs.Written.{report};
 ghost use Rattle.writer.specs.HourLines.{hour_lines, hours_lines};
 
+use calendar::Period;
 use formulas::hour::Hour;
 use layout::{RecordType, Shape};
 use sheet::SheetHour;
@@ -31,20 +32,7 @@ fn recorded_hour(h: SheetHour) -> Hour
     }
 }
 
-// The types of which each hour has a line, in the order of a report.
-const HOURLY: [RecordType; 8] = [
-    RecordType::So2Concentration,
-    RecordType::NoxConcentration,
-    RecordType::Co2Concentration,
-    RecordType::VolumetricFlow,
-    RecordType::Operation,
-    RecordType::So2Mass,
-    RecordType::NoxRate,
-    RecordType::Co2Mass,
-];
-
-// The lines of hour k.
-#[tactic(auto, using(crate::proofs::LineSteps::line_more, crate::proofs::LineSteps::line_end))]
+// The lines of hour k. Each by a call of its own: with a `for` over the types a report takes 1.9 times the instructions.
 fn write_hour_lines(
     buffer: &mut [u8],
     name: &[u8; layout::STACK_WIDTH],
@@ -56,9 +44,14 @@ fn write_hour_lines(
     requires { HourFits s k name.now buffer.old × ReadingsWithin h.readings }
     ensures { buffer.new ≡ hour_lines name.now s k (digits_of date_width date) h (hourly order) buffer.old }
 {
-    for t in HOURLY {
-        records::write_hour(buffer, name, s, t, k, date, h);
-    }
+    records::write_hour(buffer, name, s, RecordType::So2Concentration, k, date, h);
+    records::write_hour(buffer, name, s, RecordType::NoxConcentration, k, date, h);
+    records::write_hour(buffer, name, s, RecordType::Co2Concentration, k, date, h);
+    records::write_hour(buffer, name, s, RecordType::VolumetricFlow, k, date, h);
+    records::write_hour(buffer, name, s, RecordType::Operation, k, date, h);
+    records::write_hour(buffer, name, s, RecordType::So2Mass, k, date, h);
+    records::write_hour(buffer, name, s, RecordType::NoxRate, k, date, h);
+    records::write_hour(buffer, name, s, RecordType::Co2Mass, k, date, h);
 }
 
 // The lines of all hours; returns the totals that they form.
@@ -76,10 +69,11 @@ fn write_hours(
         buffer.old) }
 {
     let s = sheet::shape_of(sheet);
+    let period = Period::new(year, quarter);
     let mut totals = Totals::none();
     for k in 0..s.hours {
         let h = sheet::hour_at(sheet, k);
-        let date = stamp::stamp_number(year, quarter, h.hour);
+        let date = stamp::stamp_number(period, h.hour);
         let recorded = recorded_hour(h);
         totals = totals.with_hour(recorded.figures, recorded.time);
         write_hour_lines(buffer, name, s, k, date, recorded);

@@ -18,27 +18,26 @@ line_stands e = sym (ap (λ (l : Line). l.number) e.there)
 
 pub place_of-place-requires : goal.place_of-place-requires
 place_of-place-requires c =
-    let file = c.args.file.now in
+    let file = c.args.records.file.now in
     let k = c.in-Some.k in
-    let there = subst (λ (type : RecordType). k < length (records_of file type)) (sym c.type_named-t.ensures) (c.requires.1 k (ap rank_told c.in-Some.is)) in
-    (c.requires.0, there)
+    subst (λ (type : RecordType). k < length (records_of file type)) (sym c.type_named-t.ensures) (c.requires k (ap rank_told c.in-Some.is))
 
 pub line_of-requires-in-Some : goal.line_of-requires-in-Some
 line_of-requires-in-Some c =
-    let s = c.args.s in
-    let standing = c.requires.0 in
+    let s = c.args.records.shape in
+    let standing = c.args.records.standing in
     let place = c.place_of-place.ensures.inside in
     (standing.held, omega (arith, place, count_most s standing.held c.type_named-t.result))
 
 pub returns-in-None : goal.returns-in-None
 returns-in-None c =
-    let file = c.args.file.now in
-    c.line_of.ensures ∙ line_stands (once_stands file c.args.s c.requires.0 QuarterTotals refl)
+    let file = c.args.records.file.now in
+    c.line_of.ensures ∙ line_stands (once_stands file c.args.records.shape c.args.records.standing QuarterTotals refl)
     ∙ sym (ap (λ h. line_named file (fault_number c.args.f.fault) (rank_told h)) c.in-None.is)
 
 pub returns-in-Some : goal.returns-in-Some
 returns-in-Some c =
-    let file = c.args.file.now in
+    let file = c.args.records.file.now in
     let k = c.in-Some.k in
     c.line_of-in-Some.ensures ∙ line_stands c.place_of-place.ensures
     ∙ ap (λ (type : RecordType). (record_at file type k).number) c.type_named-t.ensures

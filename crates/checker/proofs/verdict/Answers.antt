@@ -1,6 +1,7 @@
 -- What is left to judge from each hour, and from each figure of it, is what is left of the whole.
 use Rattle.std.specs.Prelude.{Err, Option, Some}
 use Rattle.std.proofs.Common.{◌≡◌, ◌<◌, ℕ, List, suc, Bool, true, false, sym, ap, ◌∙◌, arith}
+use Rattle.std.proofs.lemmas.Option.{none-some}
 use Rattle.layout.specs.declared.Shape.{Shape}
 use Rattle.layout.specs.declared.RecordType.TheVariants.{Operation}
 use Rattle.formulas.specs.Formulas.{passes_test}
@@ -45,10 +46,10 @@ same_failure a b e f = let h : ◌≡◌ {A = Option Failure} (Some a) (Some b) 
 
 pub loop-k-init : goal.loop-k-init
 loop-k-init c =
-    let f = c.args.file.now in
-    let s = c.args.s in
+    let f = c.args.records.file.now in
+    let s = c.args.records.shape in
     let e = c.none-totals.ensures.0 in
-    let d = c.requires.standing in
+    let d = c.args.records.standing in
     record {
       few = omega arith;
       ahead = ahead_first f s d;
@@ -60,15 +61,15 @@ loop-k-init c =
 
 pub hour-hour-requires : goal.hour-hour-requires
 hour-hour-requires c =
-    let f = c.args.file.now in
-    let s = c.args.s in
+    let f = c.args.records.file.now in
+    let s = c.args.records.shape in
     let p = c.loop-k.invariant in
     let e = c.operating_from-at.ensures in
-    (c.requires.standing, c.loop-k-test.true, stands f s c.requires p c.loop-k-test.true e, itself f s c.requires p c.loop-k-test.true e)
+    (c.loop-k-test.true, stands f s c.requires p c.loop-k-test.true e, itself f s c.requires p c.loop-k-test.true e)
 
 pub loop-figure-init : goal.loop-figure-init
 loop-figure-init c =
-    let l = rw (← c.hour-hour.ensures) at (left_hour c.args.file.now c.args.s c.loop-k.k c.loop-k-test.true) in
+    let l = rw (← c.hour-hour.ensures) at (left_hour c.args.records.file.now c.args.records.shape c.loop-k.k c.loop-k-test.true) in
     record { few = omega arith; rest = l ∙ c.loop-k.invariant.rest }
 
 pub loop-figure-preserved : goal.loop-figure-preserved
@@ -78,29 +79,29 @@ loop-figure-preserved c =
     let row = row_at c.figures-figure-items.result c.figures-figure-items.ensures _ l.figure-index c.loop-figure-test.true in
     record {
       few = omega (arith, c.loop-figure-test.true);
-      rest = figure_passed c.args.file.now c.args.s c.loop-k.k h l.figure-index c.loop-figure-test.true
+      rest = figure_passed c.args.records.file.now c.args.records.shape c.loop-k.k h l.figure-index c.loop-figure-test.true
           (judged _ h l.figure-index true row c.figure_passes.ensures.test c.if-not-figure_passes.false)
           ∙ l.invariant.rest;
     }
 
 pub overflow_add-from : goal.overflow_add-from
 overflow_add-from c =
-    omega (arith, below c.args.file.now c.args.s c.requires c.loop-k.invariant c.loop-k-test.true c.operating_from-at.ensures)
+    omega (arith, below c.args.records.file.now c.args.records.shape c.requires c.loop-k.invariant c.loop-k-test.true c.operating_from-at.ensures)
 
 pub loop-k-preserved : goal.loop-k-preserved
 loop-k-preserved c =
-    let f = c.args.file.now in
-    let s = c.args.s in
+    let f = c.args.records.file.now in
+    let s = c.args.records.shape in
     let l = c.loop-k in
     let t = c.with_hour-totals in
-    pass_next f s c.requires.standing l.totals l.k l.from c.operating_from-at.result.place c.hour-hour.result c.loop-figure.figure-index t.result
+    pass_next f s c.args.records.standing l.totals l.k l.from c.operating_from-at.result.place c.hour-hour.result c.loop-figure.figure-index t.result
     l.invariant c.loop-k-test.true (there f s c.requires l.invariant c.loop-k-test.true c.operating_from-at.ensures) c.hour-hour.ensures
     t.ensures.0 t.ensures.1 c.loop-figure.invariant c.loop-figure-test.false
 
 pub returns-in-Some : goal.returns-in-Some
 returns-in-Some c =
-    let f = c.args.file.now in
-    let s = c.args.s in
+    let f = c.args.records.file.now in
+    let s = c.args.records.shape in
     let k = c.loop-k.k in
     elim c.loop-k-test.branch [
       | then-loop-k-test+then-loop-figure-test+then-not-figure_passes w ↦
@@ -112,16 +113,16 @@ returns-in-Some c =
           ∙ figure_failed f s k h l.figure-index w.loop-figure-test.true
           (judged _ h l.figure-index false row w.figure_passes.ensures.test w.if-not-figure_passes.true)
           ∙ l.invariant.rest
-      | else-loop-k-test w ↦ absurd (let z : ◌≡◌ {A = ℕ} 0 1 = cc in omega arith)
+      | else-loop-k-test w ↦ absurd (none-some _ (sym w.failed-is ∙ c.in-Some.is))
     ]
 
 pub returns-in-None : goal.returns-in-None
 returns-in-None c =
-    let f = c.args.file.now in
-    let s = c.args.s in
+    let f = c.args.records.file.now in
+    let s = c.args.records.shape in
     let l = c.loop-k in
     elim c.loop-k-test.branch [
-      | then-loop-k-test+then-loop-figure-test+then-not-figure_passes w ↦ absurd (let z : ◌≡◌ {A = ℕ} 0 1 = cc in omega arith)
+      | then-loop-k-test+then-loop-figure-test+then-not-figure_passes w ↦ absurd (none-some _ (sym c.in-None.is ∙ w.failed-is))
       | else-loop-k-test w ↦
           c.compare.ensures
           ∙ pass_end f s l.totals l.k l.from l.invariant (omega (arith, w.loop-k-test.false, l.invariant.few)) c.quarter.ensures c.totals.ensures

@@ -1,18 +1,31 @@
-use Rattle.std.proofs.Common.{◌≡◌, false, ◌∙◌}
-use Rattle.formulas.specs.Formulas.{by_heat}
-use Rattle.formulas.proofs.Equations.{judges, gas_tested, no_gas, not_so2, equation_tested, meets_readings}
+use Rattle.std.proofs.Common.{sym, ◌∙◌}
+use Rattle.formulas.proofs.Equations.{room_of, figure_most, judges, heat_tested, equation_tested, meets_readings}
 use Rattle.formulas.proofs.figure_passes.Goals as goal
-use Rattle.formulas.proofs.figure_passes.Goals.{in_default-via-in-So2+else-h, in_default-via-in_default}
 
-pub returns-in-So2 : goal.returns-in-So2
-returns-in-So2 c = judges _ _ c.requires (c.gas_passes.ensures ∙ gas_tested _ _ c.in-So2.is c.if-h.true)
-
-pub returns-in_default : goal.returns-in_default
-returns-in_default c =
+pub returns-then-by_heat : goal.returns-then-by_heat
+returns-then-by_heat c =
     let q = c.args.q in
     let h = c.args.h in
-    let e : by_heat q h ≡ false = elim c.in_default.branch [
-      | in_default-via-in-So2+else-h w ↦ no_gas q h w.if-h.false
-      | in_default-via-in_default w ↦ not_so2 q h w.in_default.not-So2
-    ] in
-    judges q h c.requires (c.meets.ensures ∙ meets_readings q h _ _ c.of.ensures.0 c.of-in_default.ensures ∙ equation_tested q h e)
+    judges q h c.requires (c.gas_passes.ensures ∙ heat_tested q h (sym c.by_heat.ensures ∙ c.if-by_heat.true))
+
+pub product_meets-requires : goal.product_meets-requires
+product_meets-requires c =
+    (room_of _ c.of-formula.ensures.1 c.in-Product.is, rw c.of-figure.ensures (figure_most c.args.q c.args.h.figures c.requires.figures))
+
+pub returns-in-Product : goal.returns-in-Product
+returns-in-Product c =
+    let q = c.args.q in
+    let h = c.args.h in
+    judges q h c.requires
+    (c.product_meets.ensures
+    ∙ meets_readings q h _ _ _ c.of-formula.ensures.0 c.in-Product.is c.of-figure.ensures
+    ∙ equation_tested q h (sym c.by_heat.ensures ∙ c.if-by_heat.false))
+
+pub returns-in-Quotient : goal.returns-in-Quotient
+returns-in-Quotient c =
+    let q = c.args.q in
+    let h = c.args.h in
+    judges q h c.requires
+    (c.quotient_meets.ensures
+    ∙ meets_readings q h _ _ _ c.of-formula.ensures.0 c.in-Quotient.is c.of-figure.ensures
+    ∙ equation_tested q h (sym c.by_heat.ensures ∙ c.if-by_heat.false))

@@ -3,7 +3,7 @@ use Rattle.std.specs.Prelude.{Err}
 use Rattle.std.proofs.Common.{sym, ap, ◌∙◌, arith}
 use Rattle.refusals.specs.Refusals.{on_paper, told, fault_in, fault_number}
 use Rattle.refusals.proofs.There.{refused_there, faulty_there, passed_there, exit_there}
-use Rattle.reading.proofs.Starting.{read_empty, read_open, read_ended, walk_found, walk_passed, facility_room, quarter_named}
+use Rattle.reading.proofs.Starting.{read_empty, read_open, read_ended, walk_found, walk_passed, facility_room}
 use Rattle.reading.proofs.read.Goals as goal
 
 pub returns-in_default : goal.returns-in_default
@@ -33,7 +33,7 @@ walk_hours-requires c =
     let there = c.in-Some.ensures.item.3 in
     let period = c.in_ok-period.period in
     let said = sym c.facility_line.ensures ∙ ap (told fault_number) (passed_there c.facility_line.result 1 period c.in_ok-period.ensures) in
-    (facility_room file there.0 period said, quarter_named file there.0 period said)
+    facility_room file there.0 period said
 
 pub returns : goal.returns
 returns c =

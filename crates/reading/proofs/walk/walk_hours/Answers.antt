@@ -7,8 +7,9 @@ use Rattle.refusals.specs.Refusals.{told, fault_in, fault_number}
 use Rattle.refusals.proofs.There.{refused_there, faulty_there, passed_there, exit_there}
 use Rattle.lines.specs.Lines.{first_line}
 use Rattle.lines.specs.LineFaults.{type_is, hour_line, HourLine}
-use Rattle.lines.specs.declared.Period.{Period}
+use Rattle.calendar.specs.Calendar.{Period}
 use Rattle.reading.specs.Places.{facility_of}
+use Rattle.reading.proofs.Walking.{FewHours}
 use Rattle.reading.proofs.Rising.{rising_start, rising_end, rising_other, rising_found, rising_below, rising_next}
 use Rattle.reading.proofs.walk.walk_hours.Goals as goal
 
@@ -24,7 +25,7 @@ said : (facility : List ℕ) (period : Period) (from : ℕ) {rest rest' : List �
 said facility period from e r h = ap (λ (r : List ℕ). hour_line facility period from (first_line r)) (sym r) ∙ sym e ∙ h
 
 pub loop-at-init : goal.loop-at-init
-loop-at-init c = rising_start c.args.file.now c.args.period c.requires.0
+loop-at-init c = rising_start c.args.file.now c.args.period c.requires
 
 pub returns-then-not-type_is : goal.returns-then-not-type_is
 returns-then-not-type_is c =
@@ -50,9 +51,10 @@ overflow_add-from c =
     let l = c.loop-at in
     let r = c.hour_line.result in
     let f = c.args.file.now in
+    let few : FewHours c.args.period = omega (arith, c.hours.ensures.hours, c.hours.ensures.most) in
     let passed = ap (told fault_number) (passed_there r (2 + l.n) c.in_ok-hour.hour c.in_ok-hour.ensures) in
     let b = rising_below f c.args.period l.n l.from l.at l.invariant c.loop-at-test.true (typed c.type_is.ensures (part_end l.at f) c.if-not-type_is.false) c.in_ok-hour.hour
-    (said (facility_of f) c.args.period l.from c.hour_line.ensures (part_end l.at f) passed) c.requires.1
+    (said (facility_of f) c.args.period l.from c.hour_line.ensures (part_end l.at f) passed) few
     in
     omega (arith, b.1)
 
@@ -61,9 +63,10 @@ loop-at-preserved c =
     let l = c.loop-at in
     let r = c.hour_line.result in
     let f = c.args.file.now in
+    let few : FewHours c.args.period = omega (arith, c.hours.ensures.hours, c.hours.ensures.most) in
     let passed = ap (told fault_number) (passed_there r (2 + l.n) c.in_ok-hour.hour c.in_ok-hour.ensures) in
     rising_next f c.args.period l.n l.from l.at l.invariant c.loop-at-test.true (typed c.type_is.ensures (part_end l.at f) c.if-not-type_is.false) c.in_ok-hour.hour
-    (said (facility_of f) c.args.period l.from c.hour_line.ensures (part_end l.at f) passed) c.requires.1
+    (said (facility_of f) c.args.period l.from c.hour_line.ensures (part_end l.at f) passed) few
 
 pub returns : goal.returns
 returns c =

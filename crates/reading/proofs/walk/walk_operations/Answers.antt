@@ -9,10 +9,11 @@ use Rattle.refusals.specs.Refusals.{told, fault_in, fault_number}
 use Rattle.refusals.proofs.There.{refused_there, faulty_there, passed_there, exit_there}
 use Rattle.lines.specs.Lines.{first_line}
 use Rattle.lines.specs.LineFaults.{type_is, operation_line, OperationSaid}
-use Rattle.lines.specs.declared.Period.{Period}
+use Rattle.calendar.specs.Calendar.{Period}
 use Rattle.lines.specs.declared.operation.OperationLine.TheVariants.{Operating, Idle}
 use Rattle.reading.specs.Places.{facility_of}
 use Rattle.reading.proofs.walk.walk_operations.Goals.{in-Idle, in-Operating}
+use Rattle.reading.proofs.Walking.{FewHours}
 use Rattle.reading.proofs.Listing.{Listing, listing_other, listing_over, listing_found, listing_idle, listing_operating}
 use Rattle.reading.proofs.walk.walk_operations.Goals as goal
 
@@ -48,10 +49,11 @@ overflow_add-from c =
     let l = c.loop-at in
     let r = c.operation_line-said.result in
     let rest = part_end l.at c.args.file.now in
+    let few : FewHours c.args.period = omega (arith, c.hours.ensures.hours, c.hours.ensures.most) in
     let says : told fault_number r ≡ Ok (Idle c.in-Idle.idle) =
     ap (told fault_number) (passed_there r l.line c.in_ok-operation.operation c.in_ok-operation.ensures) ∙ ap Ok c.in-Idle.is in
     let n =
-    listing_idle _ _ _ _ _ _ _ _ l.invariant c.loop-at-test.true (typed c.type_is.ensures rest c.if-not-type_is.false) c.in-Idle.idle c.requires.2
+    listing_idle _ _ _ _ _ _ _ _ l.invariant c.loop-at-test.true (typed c.type_is.ensures rest c.if-not-type_is.false) c.in-Idle.idle few
     (said (facility_of c.args.file.now) c.args.period l.from c.operation_line-said.ensures c.date_left.ensures rest says)
     in
     omega (arith, n.below)
@@ -61,10 +63,11 @@ overflow_add-from-in-Operating c =
     let l = c.loop-at in
     let r = c.operation_line-said.result in
     let rest = part_end l.at c.args.file.now in
+    let few : FewHours c.args.period = omega (arith, c.hours.ensures.hours, c.hours.ensures.most) in
     let says : told fault_number r ≡ Ok (Operating c.in-Operating.operating) =
     ap (told fault_number) (passed_there r l.line c.in_ok-operation.operation c.in_ok-operation.ensures) ∙ ap Ok c.in-Operating.is in
     let n =
-    listing_operating _ _ _ _ _ _ _ _ l.invariant c.loop-at-test.true (typed c.type_is.ensures rest c.if-not-type_is.false) c.in-Operating.operating c.requires.2
+    listing_operating _ _ _ _ _ _ _ _ l.invariant c.loop-at-test.true (typed c.type_is.ensures rest c.if-not-type_is.false) c.in-Operating.operating few
     (said (facility_of c.args.file.now) c.args.period l.from c.operation_line-said.ensures c.date_left.ensures rest says)
     in
     omega (arith, n.below)
@@ -76,16 +79,17 @@ loop-at-preserved c =
     let rest = part_end l.at c.args.file.now in
     let t = typed c.type_is.ensures rest c.if-not-type_is.false in
     let passed = ap (told fault_number) (passed_there r l.line c.in_ok-operation.operation c.in_ok-operation.ensures) in
+    let few : FewHours c.args.period = omega (arith, c.hours.ensures.hours, c.hours.ensures.most) in
     let says = said (facility_of c.args.file.now) c.args.period l.from c.operation_line-said.ensures c.date_left.ensures rest refl in
     let Next : ℕ → ℕ → Type 0 =
     λ from rank. Listing c.args.file.now c.args.period c.args.n c.args.start (l.at + (length_of Operation + 1)) (l.line + 1) from rank in
     elim c.match-operation.branch [
       | in-Idle w ↦
           subst₂ Next (sym w.from-is) (sym w.rank-is)
-          (listing_idle _ _ _ _ _ _ _ _ l.invariant c.loop-at-test.true t w.in-Idle.idle c.requires.2 (says ∙ passed ∙ ap Ok w.in-Idle.is))
+          (listing_idle _ _ _ _ _ _ _ _ l.invariant c.loop-at-test.true t w.in-Idle.idle few (says ∙ passed ∙ ap Ok w.in-Idle.is))
       | in-Operating w ↦
           subst₂ Next (sym w.from-is) (sym w.rank-is)
-          (listing_operating _ _ _ _ _ _ _ _ l.invariant c.loop-at-test.true t w.in-Operating.operating c.requires.2 (says ∙ passed ∙ ap Ok w.in-Operating.is))
+          (listing_operating _ _ _ _ _ _ _ _ l.invariant c.loop-at-test.true t w.in-Operating.operating few (says ∙ passed ∙ ap Ok w.in-Operating.is))
     ]
 
 pub returns : goal.returns

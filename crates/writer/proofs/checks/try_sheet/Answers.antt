@@ -17,33 +17,33 @@ returns-then-not-heading_holds c =
           words_wrong _ _ _ _ _ (sym c.heading_holds.ensures ∙ w.if-not-heading_holds.false) w.if-sheet-ne0.true
     ]
 
-pub hours_in_quarter-requires : goal.hours_in_quarter-requires
-hours_in_quarter-requires c = (heading_true _ _ _ (sym c.heading_holds.ensures ∙ c.if-not-heading_holds.false)).is_quarter
+pub new-requires : goal.new-requires
+new-requires c = (heading_true _ _ _ (sym c.heading_holds.ensures ∙ c.if-not-heading_holds.false)).is_quarter
 
 pub returns-in_err-try_hours : goal.returns-in_err-try_hours
 returns-in_err-try_hours c =
     let p = err_from_is_err_and c.from_residual.result c.from_residual.ensures.1 in
-    let found = rw c.hours_in_quarter.ensures at c.in_err-try_hours.ensures in
+    let found = rw (c.hours.ensures.hours, c.new.ensures) at c.in_err-try_hours.ensures in
     rw (p.1, p.2)
     (found_first _ _ _ _ _ (sym c.heading_holds.ensures ∙ c.if-not-heading_holds.false) c.if-sheet-ne0.false _ found
     (λ z. omega (arith, write_positive c.in_err-try_hours.field-0.0)))
 
 pub report_length-requires : goal.report_length-requires
 report_length-requires c =
-    let found = rw c.hours_in_quarter.ensures at c.in_ok-try_hours.ensures in
+    let found = rw (c.hours.ensures.hours, c.new.ensures) at c.in_ok-try_hours.ensures in
     let headed = sym c.heading_holds.ensures ∙ c.if-not-heading_holds.false in
     rw c.shape_of.ensures (shape_held _ _ _ _ (sheet_true _ _ _ _ (none_found _ _ _ _ 0 headed c.if-sheet-ne0.false (sym found))))
 
 pub returns-then-room-report_length : goal.returns-then-room-report_length
 returns-then-room-report_length c =
-    let found = rw c.hours_in_quarter.ensures at c.in_ok-try_hours.ensures in
+    let found = rw (c.hours.ensures.hours, c.new.ensures) at c.in_ok-try_hours.ensures in
     let headed = sym c.heading_holds.ensures ∙ c.if-not-heading_holds.false in
     let long = c.report_length.ensures.0 ∙ ap report_length c.shape_of.ensures in
     room_short _ _ _ _ _ headed c.if-sheet-ne0.false (sym found) long c.if-room-report_length.true
 
 pub returns : goal.returns
 returns c =
-    let found = rw c.hours_in_quarter.ensures at c.in_ok-try_hours.ensures in
+    let found = rw (c.hours.ensures.hours, c.new.ensures) at c.in_ok-try_hours.ensures in
     let headed = sym c.heading_holds.ensures ∙ c.if-not-heading_holds.false in
     let long = c.report_length.ensures.0 ∙ ap report_length c.shape_of.ensures in
     room_enough _ _ _ _ _ headed c.if-sheet-ne0.false (sym found) long c.if-room-report_length.false

@@ -1,6 +1,17 @@
-use Rattle.std.proofs.Common.{◌∙◌}
-use Rattle.writer.proofs.LineSteps.{line_more}
+-- A line of each type, from the last back.
+use Rattle.writer.specs.HourLines.{hour_lines}
 use Rattle.writer.proofs.report.write_hour_lines.Goals as goal
 
-pub loop-t-preserved : goal.loop-t-preserved
-loop-t-preserved c = rw c.write_hour.ensures (line_more _ _ _ _ _ _ c.loop-t.t-index c.loop-t.buffer _ c.loop-t-test.true ∙ c.loop-t.invariant)
+pub returns : goal.returns
+unfolding hour_lines
+returns c =
+    rw (
+      c.write_hour-8.ensures,
+      c.write_hour-7.ensures,
+      c.write_hour-6.ensures,
+      c.write_hour-5.ensures,
+      c.write_hour-4.ensures,
+      c.write_hour-3.ensures,
+      c.write_hour-2.ensures,
+      c.write_hour.ensures,
+    )
