@@ -73,3 +73,10 @@ pub check_numbers :
     ∷ fault.So2Tons ∷ fault.Co2Tons ∷ fault.HeatInput ∷ fault.NoxMean ∷ fault.Thousands ∷ fault.IdleHeat ∷ fault.NoxTons ∷ fault.Gas ∷ [])
     ≡ 1 ∷ 2 ∷ 3 ∷ 4 ∷ 5 ∷ 6 ∷ 7 ∷ 8 ∷ 9 ∷ 10 ∷ 11 ∷ 12 ∷ 13 ∷ 14 ∷ 21 ∷ 22 ∷ 23 ∷ 24 ∷ 43 ∷ 47 ∷ 48 ∷ 49 ∷ []
 check_numbers = refl
+
+pub call_numbers :
+    (map write_number (writing.Sheet ∷ writing.Range ∷ writing.Figure ∷ writing.Buffer ∷ []) ≡ 31 ∷ 32 ∷ 33 ∷ 34 ∷ [])
+    × (map join_number (joining.Order ∷ joining.Sum ∷ []) ≡ 41 ∷ 42 ∷ [])
+    × (map recorder_number (recording.Absent ∷ recording.Unusable ∷ recording.Range ∷ []) ≡ 44 ∷ 45 ∷ 46 ∷ [])
+    × (map convert_number (converting.Sheet ∷ converting.Thousands ∷ []) ≡ 31 ∷ 50 ∷ [])
+call_numbers = (refl, refl, refl, refl)

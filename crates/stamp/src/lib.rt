@@ -20,18 +20,12 @@ const NO_PAIR: u64 = 100;
 // What two bytes `0` make, as tens and units.
 const ZEROS: u64 = 10 * 48 + 48;
 
-fn wide(byte: u8) -> u64
-    ensures { (result ≡ byte) × (result < 2 ^ 8) }
-{
-    byte as u64
-}
-
 // The number in two columns, and 100 or more where they are not digits.
 fn two_digits(line: &[u8], start: usize) -> u64
     requires { Inside start pair_width line.now }
     ensures { pair_field result ≡ digits_only (columns start pair_width line.now) }
 {
-    let units = wide(line[start]);
+    let units = u64::from(line[start]);
     if units < 48 {
         return NO_PAIR;
     }
@@ -39,7 +33,7 @@ fn two_digits(line: &[u8], start: usize) -> u64
         return NO_PAIR;
     }
     // Tens that are no digit make 100 or more; those that come before the digits wrap round.
-    std::num::wrapping_sub_u64(10 * wide(line[start - 1]) + units, ZEROS)
+    std::num::wrapping_sub_u64(10 * u64::from(line[start - 1]) + units, ZEROS)
 }
 
 // The hour of the quarter on a line, with its first column.
