@@ -1,11 +1,27 @@
 -- What joining gives where the code decides: not in order, a sum over the limit, or the record.
 use Rattle.std.specs.Prelude.{◌≡◌, ℕ, ◌+◌, ◌≤◌, ◌<◌, ◌^◌, true, false, Ok, Err}
-use Rattle.std.proofs.Common.{arith}
+use Rattle.std.proofs.Common.{arith, leb-true}
 use Rattle.std.proofs.lemmas.Bool.{lt-leb, le-leb}
+use Rattle.exact.specs.Logic.{both}
 use Rattle.totals.specs.declared.Quarter.{Quarter}
 use Rattle.annual.specs.Joined.{follows, year_limit, sums_fit, with_quarter, joined_of}
 use Rattle.annual.specs.declared.YearToDate.{YearToDate}
 use Rattle.annual.proofs.JoinedLaws.{follows_true, joined_record}
+
+-- each sum lies within the limit
+pub record SumsFit (previous : YearToDate) (answer : Quarter) : Type 0 where
+  pub so2 : previous.so2 + answer.so2 ≤ year_limit
+  pub co2 : previous.co2 + answer.co2 ≤ year_limit
+  pub heat : previous.heat + answer.heat ≤ year_limit
+  pub nox_tons : previous.nox_tons + answer.nox_tons ≤ year_limit
+
+pub sums_true : (previous : YearToDate) (answer : Quarter) → sums_fit previous answer ≡ true → SumsFit previous answer
+unfolding sums_fit
+sums_true previous answer e =
+    let c = both _ _ e in
+    let b = both _ _ c.0 in
+    let a = both _ _ b.0 in
+    record { so2 = leb-true _ _ a.0; co2 = leb-true _ _ a.1; heat = leb-true _ _ b.1; nox_tons = leb-true _ _ c.1 }
 
 module _ (previous : YearToDate) (year quarter : ℕ) (answer : Quarter) where
   pub joined_41 : follows previous year quarter answer ≡ false → joined_of previous year quarter answer ≡ Err 41

@@ -83,6 +83,13 @@ impl Period {
         Period { year, quarter }
     }
 
+    // Which of the four it is.
+    pub fn quarter(self) -> u64
+        ensures { result ≡ self.quarter }
+    {
+        self.quarter
+    }
+
     fn first_month(self) -> u64
         ensures months { result ≡ first_month self.quarter }
         ensures most { result ≤ 10 }

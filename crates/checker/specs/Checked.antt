@@ -4,7 +4,7 @@ use Rattle.layout.specs.declared.RecordType.TheVariants.{QuarterTotals}
 use Rattle.judging.specs.Judged.{acceptance, type_named, judged_quarter}
 use Rattle.judging.specs.Judged.{Verdict}
 use Rattle.totals.specs.declared.Quarter.{Quarter}
-use Rattle.refusals.specs.Refusals.{PaperRefusal}
+use Rattle.refusals.specs.declared.PaperRefusal.{PaperRefusal}
 use Rattle.reading.specs.Reading.{read_of}
 use Rattle.reading.specs.Recorded.{record_at, hours_of, totals_in}
 use Rattle.reading.specs.Reading.{Reading}

@@ -53,7 +53,7 @@ fn failure_line(records: Records, f: Failure) -> usize
     match f.hour {
         None => layout::line_of(records.shape, RecordType::QuarterTotals, 0),
         Some(k) => {
-            let t = judging::type_named(f.fault);
+            let t = judging::type_named(f.fault.number());
             let place = records.place_of(t, k);
             layout::line_of(records.shape, t, place)
         }

@@ -12,10 +12,10 @@ use Rattle.conversion.specs.ConversionPromise.{ConversionPromise}
 use Rattle.conversion.proofs.SameReportLaws.{kept_promise, new_promise}
 
 -- the contract of a conversion
-abbrev Told : List ℕ → Converted → List ℕ → Type 0
+abbrev pub Told : List ℕ → Converted → List ℕ → Type 0
 Told sheet answer after = (answer ≡ conversion_answer sheet) × (after ≡ converted sheet) × ConversionPromise sheet (converted_number answer) after
 
-refused_by : (sheet : List ℕ) (number : ℕ) → number ≡ conversion_refusal sheet → 1 ≤ number → Told sheet (Err number) sheet
+pub refused_by : (sheet : List ℕ) (number : ℕ) → number ≡ conversion_refusal sheet → 1 ≤ number → Told sheet (Err number) sheet
 unfolding converted conversion_answer
 refused_by sheet zero e some = absurd (omega arith)
 refused_by sheet (suc c) e some =

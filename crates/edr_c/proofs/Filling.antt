@@ -1,22 +1,38 @@
 -- The answer's numbers at the front of a lent slice.
 use Rattle.std.specs.Prelude.{Ok, Err}
-use Prim.Native.Nat.{ℕ, ◌≤◌, ◌<◌}
-use mathlib.Core.Path.{◌≡◌, refl}
+use Prim.Native.Nat.{ℕ, suc, ◌≤◌, ◌<◌}
+use mathlib.Core.Path.{◌≡◌, refl, ap, ◌∙◌}
 use mathlib.Core.List.{List, [], ◌∷◌, ◌++◌}
 use native.Mathlib.Omega.{arith}
 use lib.ListN.{length, drop, set}
 use borrow.Author.Tests.{lt-ltb, le-ltb, eq-eqb, ne_eqb}
 use Rattle.layout.specs.Layout.{stack_width}
 use Rattle.totals.specs.declared.Quarter.{Quarter}
-use Rattle.refusals.specs.Refusals.{PaperRefusal}
+use Rattle.refusals.specs.declared.PaperRefusal.{PaperRefusal}
 use Rattle.judging.specs.Judged.{acceptance}
 use Rattle.checker.specs.Checked.{refusal, checked}
 use Rattle.writer.specs.Written.{written_number, answered, buffered}
 use Rattle.edr_c.specs.Boundary.{filled, answer_length, check_code, check_filled, write_code, write_filled}
 
+-- numbers stored one by one, from a place on
+unfoldable pub store : List ℕ → ℕ → List ℕ → List ℕ
+store [] i l = l
+store (x ∷ xs) i l = store xs (suc i) (set l i x)
+
+store_behind : (xs : List ℕ) (i y : ℕ) (l : List ℕ) → store xs (suc i) (y ∷ l) ≡ y ∷ store xs i l
+unfolding store
+store_behind [] i y l = refl
+store_behind (x ∷ xs) i y l = store_behind xs (suc i) y (set l i x)
+
+pub stored : (xs l : List ℕ) → length xs ≤ length l → store xs 0 l ≡ filled xs l
+unfolding store
+stored [] l h = refl
+stored (x ∷ xs) [] h = absurd (omega arith)
+stored (x ∷ xs) (y ∷ l) h = store_behind xs 0 x l ∙ ap (λ (r : List ℕ). x ∷ r) (stored xs l (omega arith))
+
 pub set_front : (n : ℕ) (l : List ℕ) → 1 ≤ length l → set l 0 n ≡ filled (n ∷ []) l
-set_front n [] h = absurd (omega arith)
-set_front n (x ∷ l) h = refl
+unfolding store
+set_front n l h = stored (n ∷ []) l h
 
 module _ (file buffer : List ℕ) where
   pub short : length buffer < answer_length → (2 ≡ check_code file buffer) × (buffer ≡ check_filled file buffer)

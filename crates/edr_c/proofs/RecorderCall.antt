@@ -25,7 +25,7 @@ same_hour e f g h = rw (e, f, g, h)
 
 -- the tests as the code makes them: the lengths, then the states one by one
 
-abbrev wrong_lengths : List ℕ → List Float → List ℕ → Bool
+abbrev pub wrong_lengths : List ℕ → List Float → List ℕ → Bool
 wrong_lengths states readings buffer =
     not (eqb (length states) reading_count) || not (eqb (length readings) reading_count) || ltb (length buffer) words_length
 
@@ -56,16 +56,20 @@ module _ (states : List ℕ) (readings : List Float) (buffer : List ℕ) where
   unfolding recorder_code recorder_filled
   wrong e = (rw (e, recorder_code), rw (e, recorder_filled))
 
+  pub wrong_lengths_lem : wrong_lengths states readings buffer ≡ true →
+      (2 ≡ recorder_code states readings buffer) × (buffer ≡ recorder_filled states readings buffer)
+  wrong_lengths_lem e = wrong (rw e)
+
   pub wrong_states : (length states ≡ reading_count → ⊥) → (2 ≡ recorder_code states readings buffer) × (buffer ≡ recorder_filled states readings buffer)
-  wrong_states n = wrong (rw (ne_eqb (length states) reading_count n))
+  wrong_states n = wrong_lengths_lem (rw (ne_eqb (length states) reading_count n))
 
   pub wrong_readings : (length readings ≡ reading_count → ⊥) →
       (2 ≡ recorder_code states readings buffer) × (buffer ≡ recorder_filled states readings buffer)
-  wrong_readings n = wrong (rw (ne_eqb (length readings) reading_count n, or-true (not (eqb (length states) reading_count))))
+  wrong_readings n = wrong_lengths_lem (rw (ne_eqb (length readings) reading_count n, or-true (not (eqb (length states) reading_count))))
 
   pub wrong_room : length buffer < words_length → (2 ≡ recorder_code states readings buffer) × (buffer ≡ recorder_filled states readings buffer)
   wrong_room h =
-      wrong
+      wrong_lengths_lem
       (rw (lt-ltb (length buffer) words_length h, or-true (not (eqb (length states) reading_count) || not (eqb (length readings) reading_count))))
 
   module _ (s : length states ≡ reading_count) (r : length readings ≡ reading_count) (b : words_length ≤ length buffer) where

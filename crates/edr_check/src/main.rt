@@ -71,7 +71,10 @@ fn answer_line(report: &[u8], line: &mut [u8]) -> usize
     ensures { (result ≡ length (printed (checked report.now))) × (result ≤ longest_line)
         × (line.new ≡ put 1 (printed (checked report.now)) line.old) }
 {
-    printing::print_answer(line, checker::check(report))
+    printing::print_answer(
+        line,
+        checker::check(report).map_err(|refusal| refusal.on_paper()),
+    )
 }
 
 fn main(rt: HostRuntime) -> io::Result<()> {

@@ -5,3 +5,4 @@ pub mod JudgedPromiseLaws
 pub mod ShareLaws
 pub mod HourLaws
 pub mod RowLaws
+pub mod TotalsTried

@@ -48,12 +48,12 @@ pub fn figures() -> [FigureRow; 4]
     ]
 }
 
-// The type of the line that a refusal names; a total's is that of line 301.
-pub fn type_named(fault: Fault) -> RecordType
-    ensures { result ≡ type_named (fault_number fault) }
+// The type of the line that a refusal names by its number; a total's is that of line 301. A number, not a `Fault`: it answers for every number.
+pub fn type_named(number: u64) -> RecordType
+    ensures { result ≡ type_named number }
 {
     for row in figures() {
-        if row.fault == fault {
+        if row.fault.number() == number {
             return row.record_type;
         }
     }

@@ -49,9 +49,9 @@ module _ (line : List ℕ) where
   unfolding facility_line says
   faulty e k = found e (facility_fault line) k
 
-  faultless : 0 ≡ facility_fault line → Ok (period_on line) ≡ facility_line line
+  pub facility_of_lem : facility_fault line ≡ 0 → Ok (period_on line) ≡ facility_line line
   unfolding facility_line says
-  faultless k = ap says k
+  facility_of_lem e = sym (ap says e)
 
   pub shapeless : (e : Fault) → fault_number e ≡ shape_fault Facility line → Err (fault_number e) ≡ facility_line line
   unfolding facility_fault
@@ -88,7 +88,8 @@ module _ (rest : List ℕ) (fine : 0 ≡ shape_fault Facility (first_line rest))
 
       pub facility_read : true ≡ within quarter_digit q → Ok (record { year = y; quarter = q }) ≡ facility_line (first_line rest)
       facility_read v =
-          rw (e, g, ← known) (faultless (first_line rest) (tests false true true b (w ∙ ap (within year_digits) e) (v ∙ ap (within quarter_digit) g)))
+          rw (e, g, ← known)
+          (facility_of_lem (first_line rest) (sym (tests false true true b (w ∙ ap (within year_digits) e) (v ∙ ap (within quarter_digit) g))))
 
 pub ruleset facility_tests = (shapeless, facility_long, no_stack, no_year, no_quarter, facility_read)
 
@@ -135,7 +136,13 @@ dated_known facility period t from rest hour e =
     let fine = dated_shape facility period t from (first_line rest) said.0 in
     record { none = said.0; own = said.1; known = line_known t rest fine (length_of t) refl; long = line_length_lem t rest fine (length_of t) refl }
 
--- a 200 line
+-- a 200 line, from its fault
+pub hour_of_lem : (facility : List ℕ) (period : Period) (from : ℕ) (line : List ℕ) → hour_fault facility period from line ≡ 0 →
+    Ok (hour_in period So2Concentration line) ≡ hour_line facility period from line
+unfolding hour_line
+hour_of_lem facility period from line e = sym (ap (λ (f : ℕ). hour_said f (hour_in period So2Concentration line)) e)
+
+-- and test by test
 module _ (facility : List ℕ) (period : Period) (from : ℕ) (rest : List ℕ) where
   pub hour_undated : (e : Fault) → Err (fault_number e) ≡ dated_line facility period So2Concentration from (first_line rest) →
       Err (fault_number e) ≡ hour_line facility period from (first_line rest)

@@ -18,7 +18,6 @@ pub const STACK_FROM: usize = layout::STACK_START - 1;
 pub const STACK_TO: usize = STACK_FROM + layout::STACK_WIDTH;
 
 // The stack name, in a line that is long enough.
-#[tactic(auto, unfolding(columns::specs::Columns::columns, crate::specs::LineFaults::stack_fault))]
 fn try_stack(facility: &[u8], line: &[u8]) -> Result<(), Fault>
     requires { (length_of RecordType.Facility ≤ length facility.now) × (length_of RecordType.Facility ≤ length line.now) }
     ensures { fault_in fault_number result ≡ stack_fault facility.now line.now }

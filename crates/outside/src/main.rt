@@ -28,7 +28,8 @@ fn print_bytes(out: Stdout, bytes: &[u8]) {
 
 fn print_check(out: Stdout, report: &[u8]) {
     let mut line = [0u8; printing::LONGEST_LINE];
-    let size = printing::print_answer(&mut line, checker::check(report));
+    let answer = checker::check(report).map_err(|refusal| refusal.on_paper());
+    let size = printing::print_answer(&mut line, answer);
     print_bytes(out, &line[..size]);
 }
 

@@ -5,9 +5,8 @@ ghost use Rattle.std.specs.Prelude.{◌≡◌, ◌+◌, ◌≤◌, length};
 ghost use Rattle.columns.specs.Columns.{put};
 ghost use Rattle.printing.specs.Printed.{digit_count, spaced, printed_line, printed, longest_line};
 ghost use Rattle.printing.specs.Room.{NumberRoom, LineRoom};
-ghost use Rattle.refusals.specs.Refusals.{on_paper, told};
 
-use refusals::Refusal;
+use refusals::PaperRefusal;
 use totals::Quarter;
 
 // The longest line: a word of eight letters, six spaces and numbers of 20 digits, and byte 10.
@@ -53,11 +52,10 @@ pub fn print_line(line: &mut [u8], word: &[u8], numbers: &[u64]) -> usize
     column
 }
 
-// Returns the length of the line.
-pub fn print_answer(line: &mut [u8], answer: Result<Quarter, Refusal>) -> usize
+// Returns the length of the line. A refusal is here the paper's two numbers, which may be any.
+pub fn print_answer(line: &mut [u8], answer: Result<Quarter, PaperRefusal>) -> usize
     requires { longest_line ≤ length line.old }
-    ensures { (result ≡ length (printed (told on_paper answer))) × (result ≤ longest_line)
-        × (line.new ≡ put 1 (printed (told on_paper answer)) line.old) }
+    ensures { (result ≡ length (printed answer)) × (result ≤ longest_line) × (line.new ≡ put 1 (printed answer) line.old) }
 {
     match answer {
         Ok(quarter) => print_line(
@@ -72,10 +70,6 @@ pub fn print_answer(line: &mut [u8], answer: Result<Quarter, Refusal>) -> usize
                 quarter.nox_tons,
             ],
         ),
-        Err(refusal) => print_line(
-            line,
-            b"refused",
-            &[refusal.fault.number(), refusal.line as u64],
-        ),
+        Err(refusal) => print_line(line, b"refused", &[refusal.number, refusal.line as u64]),
     }
 }

@@ -10,7 +10,7 @@ use Rattle.calendar.specs.Calendar.{Period}
 use Rattle.reading.specs.Reading.{stopped_at, runs_of, last_types, walk_due, walk_end, walk_last}
 use Rattle.reading.specs.Places.{facility_of, hour_lines_in}
 use Rattle.reading.specs.Passages.{PassesRuns, led}
-use Rattle.refusals.specs.Refusals.{PaperRefusal}
+use Rattle.refusals.specs.declared.PaperRefusal.{PaperRefusal}
 use Rattle.reading.specs.declared.Report.{Report}
 use Rattle.reading.specs.Reading.{Reading}
 use Rattle.reading.specs.declared.walk.Cursor.{Cursor}

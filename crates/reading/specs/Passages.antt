@@ -8,7 +8,7 @@ use Rattle.reading.specs.Reading.{runs_of, After, walk_due, walk_operations}
 use Rattle.reading.specs.Places.{facility_of, hour_lines_in}
 use Rattle.reading.specs.declared.walk.Cursor.{Cursor}
 use Rattle.reading.specs.Reading.{Reading}
-use Rattle.refusals.specs.Refusals.{PaperRefusal}
+use Rattle.refusals.specs.declared.PaperRefusal.{PaperRefusal}
 
 -- the next line, or the refusal
 abbrev pub Passage : Type 0

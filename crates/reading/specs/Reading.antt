@@ -9,7 +9,7 @@ use Rattle.lines.specs.LineFaults.{type_is, facility_line, date_on, hour_line, D
 use Rattle.calendar.specs.Calendar.{Period}
 use Rattle.lines.specs.declared.operation.OperationLine.TheVariants.{Operating, Idle}
 use Rattle.reading.specs.declared.Report.{Report}
-use Rattle.refusals.specs.Refusals.{PaperRefusal}
+use Rattle.refusals.specs.declared.PaperRefusal.{PaperRefusal}
 
 -- what the report says of itself, or the refusal
 abbrev pub Reading : Type 0

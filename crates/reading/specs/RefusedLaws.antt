@@ -43,7 +43,7 @@ use Rattle.reading.specs.WalkLaws.{Other, hours_passed, early_passed, listed_pas
 use Rattle.reading.specs.RightFile.{RightFile}
 use Rattle.reading.specs.RightFileLaws.{right_read}
 use Rattle.reading.specs.declared.Report.{Report}
-use Rattle.refusals.specs.Refusals.{PaperRefusal}
+use Rattle.refusals.specs.declared.PaperRefusal.{PaperRefusal}
 use Rattle.reading.specs.Reading.{Reading}
 
 -- a reading that is clean, or refuses by a row

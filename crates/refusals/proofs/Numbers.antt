@@ -1,6 +1,6 @@
 -- No refusal has the number 0: so it is the first of what is tried behind it. The numbers of the paper's table.
-use Rattle.std.specs.Prelude.{ℕ, ◌≡◌, ◌≤◌, [], ◌∷◌, map}
-use Rattle.std.proofs.Common.{refl, sym, ◌∙◌, arith}
+use Rattle.std.specs.Prelude.{ℕ, ◌≡◌, ◌≤◌, List, [], ◌∷◌, map, cond, eqb}
+use Rattle.std.proofs.Common.{refl, sym, ap, ◌∙◌, arith}
 use Rattle.exact.specs.Faults.{◌or_else◌, or_first, or_next}
 use Rattle.refusals.specs.Refusals.{fault_number, write_number, join_number, recorder_number, convert_number}
 use Rattle.refusals.specs.declared.Fault.{Fault}
@@ -64,6 +64,45 @@ first_said n a b h e = e ∙ sym (or_first a b (λ z. omega arith))
 -- and the second is said where the first is none
 pub next_said : (a b : ℕ) → 0 ≡ a → a or_else b ≡ b
 next_said a b e = or_next a b (sym e)
+
+faults : List Fault
+faults =
+    fault.Unfinished ∷ fault.Type ∷ fault.Length ∷ fault.Byte ∷ fault.Stack ∷ fault.Period ∷ fault.Date ∷ fault.Format
+    ∷ fault.Range ∷ fault.Missing ∷ fault.HeatRate ∷ fault.So2Rate ∷ fault.NoxRate ∷ fault.Co2Rate
+    ∷ fault.So2Tons ∷ fault.Co2Tons ∷ fault.HeatInput ∷ fault.NoxMean ∷ fault.Thousands ∷ fault.IdleHeat ∷ fault.NoxTons ∷ fault.Gas ∷ []
+
+numbered : List Fault → ℕ → Fault
+numbered [] number = fault.Unfinished
+numbered (f ∷ fs) number = cond (eqb (fault_number f) number) f (numbered fs number)
+
+-- no two faults have one number
+found : (f : Fault) → numbered faults (fault_number f) ≡ f
+unfolding faults numbered
+found fault.Unfinished = refl
+found fault.Type = refl
+found fault.Length = refl
+found fault.Byte = refl
+found fault.Stack = refl
+found fault.Period = refl
+found fault.Date = refl
+found fault.Format = refl
+found fault.Range = refl
+found fault.Missing = refl
+found fault.HeatRate = refl
+found fault.So2Rate = refl
+found fault.NoxRate = refl
+found fault.Co2Rate = refl
+found fault.So2Tons = refl
+found fault.Co2Tons = refl
+found fault.HeatInput = refl
+found fault.NoxMean = refl
+found fault.Thousands = refl
+found fault.IdleHeat = refl
+found fault.NoxTons = refl
+found fault.Gas = refl
+
+pub one_fault : (f g : Fault) → fault_number f ≡ fault_number g → f ≡ g
+one_fault f g e = sym (found f) ∙ ap (numbered faults) e ∙ found g
 
 -- the paper's table
 pub check_numbers :

@@ -2,7 +2,8 @@
 use Rattle.std.specs.Prelude.{ℕ, ◌≡◌, Result, Ok, Err, IsErrAnd}
 use Rattle.std.proofs.lemmas.Result.{err_from_is_err_and}
 use Rattle.std.proofs.Common.{refl, ap, ◌∙◌, arith}
-use Rattle.refusals.specs.Refusals.{PaperRefusal, fault_number, on_paper, refusal_at, told, fault_in}
+use Rattle.refusals.specs.Refusals.{fault_number, on_paper, refusal_at, told, fault_in}
+use Rattle.refusals.specs.declared.PaperRefusal.{PaperRefusal}
 use Rattle.refusals.specs.declared.Fault.{Fault}
 use Rattle.refusals.specs.declared.Refusal.{Refusal}
 use Rattle.refusals.proofs.Numbers.{fault_positive}

@@ -3,6 +3,7 @@ use Rattle.std.specs.Prelude.{ℕ, Result, Ok, Err}
 use Rattle.refusals.specs.declared.Fault.{Fault}
 use Rattle.refusals.specs.declared.Fault.TheVariants as fault
 use Rattle.refusals.specs.declared.Refusal.{Refusal}
+use Rattle.refusals.specs.declared.PaperRefusal.{PaperRefusal}
 use Rattle.refusals.specs.declared.WriteRefusal.{WriteRefusal}
 use Rattle.refusals.specs.declared.WriteRefusal.TheVariants as writing
 use Rattle.refusals.specs.declared.JoinRefusal.{JoinRefusal}
@@ -60,10 +61,6 @@ abbrev pub refusal_at : ℕ → Fault → Refusal
 refusal_at line fault = record { fault = fault; line = line }
 
 -- a refusal of a file as the paper has it: its number, and its line
-pub record PaperRefusal : Type 0 where
-  pub number : ℕ
-  pub line : ℕ
-
 abbrev pub on_paper : Refusal → PaperRefusal
 on_paper r = record { number = fault_number r.fault; line = r.line }
 

@@ -2,7 +2,7 @@
 #![tactic(auto)]
 
 ghost use Rattle.std.specs.Prelude.{◌≡◌};
-ghost use Rattle.refusals.specs.Refusals.{fault_number, write_number, join_number, recorder_number, convert_number, refusal_at, told};
+ghost use Rattle.refusals.specs.Refusals.{fault_number, write_number, join_number, recorder_number, convert_number, refusal_at, on_paper, told};
 
 /// What the check refuses a file for.
 #[derive(Clone, Copy, Debug, PartialEq, Eq)]
@@ -57,6 +57,13 @@ pub enum Fault {
 #[derive(Clone, Copy, Debug, PartialEq, Eq)]
 pub struct Refusal {
     pub fault: Fault,
+    pub line: usize,
+}
+
+/// A refusal of a file as the paper has it: a number and a line.
+#[derive(Clone, Copy, Debug, PartialEq, Eq)]
+pub struct PaperRefusal {
+    pub number: u64,
     pub line: usize,
 }
 
@@ -146,6 +153,18 @@ impl Fault {
             Fault::IdleHeat => 47,
             Fault::NoxTons => 48,
             Fault::Gas => 49,
+        }
+    }
+}
+
+impl Refusal {
+    /// Its number and its line.
+    pub fn on_paper(self) -> PaperRefusal
+        ensures { result ≡ on_paper self }
+    {
+        PaperRefusal {
+            number: self.fault.number(),
+            line: self.line,
         }
     }
 }

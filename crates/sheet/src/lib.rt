@@ -127,7 +127,7 @@ pub fn heading_holds(name: &[u8], year: u64, quarter: u64) -> bool
 }
 
 // 31: the kinds of the words of the k-th hour are 0, 1 and so on.
-#[tactic(auto, using(crate::proofs::Words::kinds_more, crate::proofs::Words::kinds_stop, crate::proofs::Words::kinds_end))]
+#[tactic(auto, using(crate::proofs::Words::kinds_end))]
 pub fn kinds_hold(sheet: &[u32], k: usize) -> bool
     requires { hour_words * k + hour_words ≤ length sheet.now }
     ensures { result ≡ hour_kinds sheet.now k }

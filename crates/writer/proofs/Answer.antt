@@ -19,7 +19,7 @@ use Rattle.refusals.specs.declared.WriteRefusal.{WriteRefusal}
 use Rattle.refusals.proofs.Numbers.{write_positive}
 
 module _ (year quarter : ℕ) (name sheet : List ℕ) (room : ℕ) where
-  refused_by : (r : ℕ) → r ≡ refusal_of year quarter name sheet room → 1 ≤ r → answered year quarter name sheet room ≡ Err r
+  pub refused_by : (r : ℕ) → r ≡ refusal_of year quarter name sheet room → 1 ≤ r → answered year quarter name sheet room ≡ Err r
   unfolding answered_in
   refused_by zero e h = absurd (omega arith)
   refused_by (suc r) e h = rw (← e, answered_in)

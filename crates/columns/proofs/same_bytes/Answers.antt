@@ -9,7 +9,7 @@ use Rattle.columns.proofs.same_bytes.Goals as goal
 
 pub returns-then-a-b : goal.returns-then-a-b
 returns-then-a-b c =
-    let pairs = YieldsList-from_zip {s = c.zip.result} (YieldsList-from_slice c.args.a.now (cc)) (YieldsList-from_slice c.args.b.now (cc)) in
+    let pairs = YieldsList-from_zip {s = c.zip.result} (YieldsList-from_slice c.args.a.now (cc)) (YieldsList-from_slice c.args.b.now c.zip.ensures.second.0) in
     let e : c.fold.result ≡ fold with_pair true (zip c.args.a.now c.args.b.now) =
     fold_over (zips fronts fronts) (λ p. (p.0.now, p.1.now)) _ (λ ys r. r ≡ fold with_pair true ys) _
     (λ ys a x b f j k.
