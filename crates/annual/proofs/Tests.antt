@@ -28,7 +28,7 @@ module _ (previous : YearToDate) (year quarter : ℕ) (answer : Quarter) where
   unfolding joined_of
   joined_41 e = rw (e, joined_of)
 
-  joined_42 : follows previous year quarter answer ≡ true → sums_fit previous answer ≡ false → joined_of previous year quarter answer ≡ Err 42
+  pub joined_42 : follows previous year quarter answer ≡ true → sums_fit previous answer ≡ false → joined_of previous year quarter answer ≡ Err 42
   unfolding joined_of
   joined_42 e s = rw (e, joined_of, s)
 

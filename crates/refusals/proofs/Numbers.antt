@@ -1,4 +1,4 @@
--- No refusal has the number 0: so it is the first of what is tried behind it. The numbers of the paper's table.
+-- No refusal has the number 0: so it is the first of what is tried behind it. No two of the check's have one number. The numbers of the paper's table.
 use Rattle.std.specs.Prelude.{ℕ, ◌≡◌, ◌≤◌, List, [], ◌∷◌, map, cond, eqb}
 use Rattle.std.proofs.Common.{refl, sym, ap, ◌∙◌, arith}
 use Rattle.exact.specs.Faults.{◌or_else◌, or_first, or_next}

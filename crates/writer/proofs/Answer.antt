@@ -1,12 +1,13 @@
 -- The two answers of the writer: a refusal, and the report's length.
 use Rattle.std.specs.Prelude.{Ok, Err}
 use Prim.Native.Nat.{ℕ, zero, suc, ◌+◌, ◌-◌, ◌≤◌}
-use mathlib.Core.Path.{◌≡◌, refl, sym}
+use mathlib.Core.Path.{◌≡◌, refl, sym, ◌∙◌}
 use mathlib.Core.List.{List}
 use native.Mathlib.Omega.{arith}
 use lib.ListN.{length}
 use Rattle.columns.specs.Columns.{put}
 use Rattle.layout.specs.Layout.{stack_width, report_length, Held}
+use Rattle.layout.specs.declared.Shape.{Shape}
 use Rattle.sheet.specs.Sheet.{shape_of, sheet_hours}
 use Rattle.writer.specs.Recorded.{report_hours}
 use Rattle.writer.specs.Refusals.{refusal_of}
@@ -57,5 +58,22 @@ module _ (year quarter : ℕ) (name sheet buffer : List ℕ) where
       let n : 1 - 1 + length (report year quarter name (report_hours (sheet_hours sheet))) ≡ report_length (shape_of sheet) =
       omega (arith, report_bytes year quarter name (report_hours (sheet_hours sheet)) named (shape_of sheet) (report_shape sheet)) in
       rw (← e, buffered_in, n)
+
+-- the same, of the number that was found
+module _ (year quarter : ℕ) (name sheet buffer : List ℕ) (r : ℕ) (told : r ≡ refusal_of year quarter name sheet (length buffer)) (none : r ≡ 0) where
+  pub room_for : length name ≡ stack_width → Fits year quarter name sheet buffer
+  room_for = taken_fits year quarter name sheet buffer (sym none ∙ told)
+
+  pub held_shape : (s : Shape) → s ≡ shape_of sheet → Held s
+  held_shape s e = rw e (taken_held year quarter name sheet (length buffer) (sym none ∙ told))
+
+  pub written : length name ≡ stack_width → (s : Shape) → s ≡ shape_of sheet → (size : ℕ) → size ≡ report_length s → (after : List ℕ) →
+      after ≡ put 1 (report year quarter name (report_hours (sheet_hours sheet))) buffer →
+      (Ok size ≡ answered year quarter name sheet (length buffer)) × (after ≡ buffered year quarter name sheet buffer)
+  written named s e size sized after put_there =
+      let taken = sym none ∙ told in (
+        rw (sized, e) (sym (taken_answer year quarter name sheet (length buffer) taken)),
+        put_there ∙ sym (taken_buffer year quarter name sheet buffer taken named),
+      )
 
 pub ruleset answering = (write_positive, refused_answer, refused_buffer, taken_answer, taken_held, taken_fits, taken_buffer)

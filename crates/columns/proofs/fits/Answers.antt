@@ -1,3 +1,4 @@
+-- The block that ends with the last column reaches back to the others.
 use Rattle.std.proofs.Common.{◌≡◌, ℕ, ◌+◌, ◌-◌, ◌*◌, length, refl, subst, arith}
 use Rattle.columns.specs.Picture.{FitsFrom}
 use Rattle.columns.proofs.Pictures.{fits_joined}

@@ -1,3 +1,4 @@
+-- No digit is left: a blank.
 use Rattle.filling.proofs.Fields.{blank_byte, digit_byte}
 use Rattle.filling.proofs.digit_or_blank.Goals as goal
 
